@@ -23,6 +23,7 @@ use Rattle.world_laws.specs.declared.event.Happened.TheVariants.{Sent, Stepped}
 use Rattle.world_laws.specs.declared.event.WorldEvent.{WorldEvent}
 use Rattle.world_laws.specs.declared.event.WorldEvent.TheVariants.{Start, Deliver, Lane, CallBy}
 use Rattle.world_laws.specs.Agreement.{FixedAs}
+use Rattle.world_laws.specs.Arrival.{TakesInHand}
 use Rattle.world_laws.specs.Deeds.{Deed}
 use Rattle.world_laws.specs.Events.{Happens, Run, Begins}
 use Rattle.world_laws.specs.State.{World}
@@ -100,3 +101,10 @@ FirstArrivalLaw = (start : World) (earlier : List WorldEvent) (w : World) → Be
     → Comes w lane octets now outcome id ends n procedure args → (deed : Deed) (looked : World)
     → Happens w (Lane lane octets now draws) deed looked
     → (deed.answer ≡ None) ⊎ TakesNext looked lane octets now draws id n procedure args
+
+-- ---- a call that is in hand already
+
+-- in every world a call that a lane has in hand, whatever lease showed its context, is done by the
+-- lane's next event
+abbrev pub ArrivalInHandLaw : Type 0
+ArrivalInHandLaw = (lease : Lease) → HasOctets lease.outcome.key → TakesInHand lease

@@ -3,4 +3,4 @@
 
 mod laws;
 
-pub use laws::{prove_first_arrival, prove_seen_arrival};
+pub use laws::{prove_arrival_in_hand, prove_first_arrival, prove_seen_arrival};

@@ -27,7 +27,7 @@ use Rattle.world_laws.specs.Deeds.{Deed}
 use Rattle.world_laws.specs.State.{InHand, World}
 use Rattle.world_laws.specs.Lanes.{question_of, ruling_of, hand_after, IsAnswer, Follows, AnswersAtOnce, Asks, LaneMoves}
 use Rattle.world_laws.specs.Events.{LanesBy}
-use Rattle.world_laws.specs.Headline.{Arrives, IsEnded, IsTaken, ArrivalLaw}
+use Rattle.world_laws.specs.Arrival.{Arrives, IsEnded, IsTaken, TakesInHand}
 use Rattle.world_laws.proofs.Undecided.{undecided, few-asked, unanswered}
 
 -- ---- the question is the admission
@@ -161,6 +161,6 @@ taken-by lease law old lane n procedure args deed new a moves = by moves
     by (inl o) = at-once o
     by (inr q) = asks q
 
-pub arrival : ArrivalLaw
+pub arrival : (lease : Lease) → HonestLaw lease → TakesInHand lease
 arrival lease law old lane n procedure args octets now draws deed new a happens =
     taken-by lease law old lane n procedure args deed new a (subst (λ hand. LanesBy old lane octets now draws hand deed new) a.there happens.did)

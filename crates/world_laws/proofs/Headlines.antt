@@ -7,7 +7,6 @@ use Rattle.world_laws.specs.Events.{IsBook, Run}
 use Rattle.world_laws.specs.Premises.{Fresh}
 use Rattle.world_laws.specs.Headline.{OnceLaw, EarlierLaw, Headline}
 use Rattle.world_laws.proofs.Invariants.{Below}
-use Rattle.world_laws.proofs.Arriving.{arrival}
 use Rattle.world_laws.proofs.Freshness.{fresh-back}
 use Rattle.world_laws.proofs.Growing.{run-grows}
 use Rattle.world_laws.proofs.Origin.{origin-law}
@@ -37,6 +36,5 @@ headline laws = record {
   origin = origin-law laws;
   earlier = earlier laws;
   once = once;
-  arrival = arrival;
   quiet = quiet;
 }

@@ -70,6 +70,7 @@ pub mod OriginWaiting
 pub mod OriginHolder
 pub mod OriginTraced
 pub mod Origin
+pub mod ListsMet
 pub mod Undecided
 pub mod Arriving
 pub mod Quiet

@@ -1,7 +1,8 @@
 -- What an acceptor knows of the initiator's list: the mechanism is its own first choice, or the
 -- list that it received is its partner's own.
-use Rattle.std.specs.Prelude.{◌≡◌, ◌⊎◌, ℕ, true, List, [], ◌∷◌, map, slice_get, Option, Some}
+use Rattle.std.specs.Prelude.{◌≡◌, ◌≢◌, ◌⊎◌, ℕ, true, List, [], ◌∷◌, map, slice_get, Option, Some}
 use Rattle.std.specs.Prelude.{None}
+use Rattle.std.specs.List.{AllByRecursion}
 use Rattle.krb_tokens.specs.declared.end.Side.TheVariants.{Acceptor}
 use Rattle.scram_mech.specs.Acceptor.{AcceptModel}
 use Rattle.scram_mech.specs.MechMaking.{AmongMakings, typed}
@@ -13,6 +14,7 @@ use Rattle.spnego_core.specs.InitLaws.{finished_of}
 use Rattle.spnego_core.specs.ListMic.{mic_found}
 use Rattle.gss_client.specs.Session.{SessionState}
 use Rattle.world_laws.specs.declared.event.WorldEvent.{WorldEvent}
+use Rattle.world_laws.specs.declared.event.WorldEvent.TheVariants.{Start, Deliver, Lane, CallBy}
 use Rattle.world_laws.specs.Stages.{StageSays}
 use Rattle.world_laws.specs.Stages as stages
 use Rattle.world_laws.specs.Deeds.{Deed}
@@ -88,3 +90,28 @@ KnownListLaw = (marking : Marking) (old : World) (events : List WorldEvent) (new
     (run : Run old events new)
     → Begins old → NoForgery marking old events new run → Fresh marking new
     → NoForgedList marking new old events new run → KnowsList marking new
+
+-- ---- runs that meet it
+
+-- the event isn't a call
+abbrev pub IsNoCall : WorldEvent → Type 0
+IsNoCall (Start i) = Unit {0}
+IsNoCall (Deliver i octets first) = Unit {0}
+IsNoCall (Lane lane octets now draws) = Unit {0}
+IsNoCall (CallBy i procedure args) = ⊥
+
+-- how such a run leaves the world: no initiator ended before its context stood; one whose mechanism
+-- is done with the key of a context that is built on a guarded key is on a guarded key; and keys of
+-- contexts on proofs differ
+pub record LeavesUntold (marking : Marking) (w : World) : Type 0 where
+  pub lasting : (i : ℕ) → slice_get w.stages i ≢ Some stages.Over
+  pub untold : (i : ℕ) (own : PlainSetup) (outcome : Outcome) → Finished w i own outcome
+      → BuiltKey marking w.fixed outcome.key → OnGuarded marking own outcome.mech
+  pub apart : ProofKeysApart marking w
+
+-- a run in which nothing is forged and nobody calls meets it, if it leaves the world so
+abbrev pub UnforgedListLaw : Type 0
+UnforgedListLaw = (marking : Marking) (old : World) (events : List WorldEvent) (new : World)
+    (run : Run old events new)
+    → Begins old → NoForgery marking old events new run → AllByRecursion IsNoCall events
+    → LeavesUntold marking new → NoForgedList marking new old events new run

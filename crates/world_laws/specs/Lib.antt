@@ -12,4 +12,5 @@ pub mod OneMechanism
 pub mod Origin
 pub mod KnownList
 pub mod Headline
+pub mod Arrival
 pub mod Below

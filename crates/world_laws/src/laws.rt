@@ -5,7 +5,7 @@ ghost use Rattle.world_laws.specs.Agreement.{AgreementLaw};
 ghost use Rattle.world_laws.specs.OneMechanism.{AgreementLawBy};
 ghost use Rattle.world_laws.specs.Below.{Below};
 ghost use Rattle.world_laws.specs.Headline.{Headline};
-ghost use Rattle.world_laws.specs.KnownList.{KnownListLaw};
+ghost use Rattle.world_laws.specs.KnownList.{KnownListLaw, UnforgedListLaw};
 ghost use Rattle.world_laws.specs.Origin.{OriginLaw};
 
 use accept_book::laws::prove_book_laws;
@@ -56,8 +56,17 @@ pub fn prove_known_list()
     tell_below();
 }
 
+/// Does nothing; its contract holds that a run meets what `prove_known_list` asks of it beside the premises of the headline. In the run nothing is
+/// forged, nobody calls, and nobody ends before its context stands; after it, one whose mechanism is done with the key of a context on a guarded key is
+/// on a guarded key itself, and contexts on proofs have keys of their own.
+pub fn prove_unforged_list()
+    ensures { UnforgedListLaw }
+{
+    tell_below();
+}
+
 /// Does nothing; its contract holds the headline: agreement and origin, at each point of a run; that no number of a context and no authenticator
-/// stands twice in the log; that an honest call that comes first is taken; and that what is refused asks nothing of the premises.
+/// stands twice in the log; and that what is refused asks nothing of the premises.
 pub fn prove_headline()
     ensures { Headline }
 {

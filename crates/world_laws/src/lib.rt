@@ -5,4 +5,7 @@ mod event;
 mod laws;
 
 pub use event::{Happened, WorldEvent};
-pub use laws::{prove_agreement, prove_headline, prove_known_list, prove_origin, tell_below};
+pub use laws::{
+    prove_agreement, prove_headline, prove_known_list, prove_origin, prove_unforged_list,
+    tell_below,
+};

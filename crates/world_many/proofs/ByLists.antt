@@ -1,34 +1,43 @@
 -- That what is listed pairwise different is fresh.
 use Rattle.std.proofs.Common.{◌≡◌, inl, inr, ℕ, zero, suc, true, false, refl, sym, ap, ◌∙◌, subst, List, [], ◌∷◌, map, slice_get, Option, Some}
+use Rattle.std.specs.List.{AllByRecursion}
 use Rattle.std.proofs.lemmas.Option.{none-some, same_Some}
+use Rattle.gss_base.specs.declared.mech.MechKind.{MechKind}
 use Rattle.gss_base.specs.declared.mech.MechKind.TheVariants as kinds
 use Rattle.krb_derive.specs.declared.key.Key.{Key}
 use Rattle.krb_files.specs.Granted.{Granted}
 use Rattle.ap_exchange.specs.declared.judged.Judged.{Judged}
 use Rattle.ap_exchange.specs.Draws.{drawn_nonce}
 use Rattle.scram_mech.specs.Acceptor.{AcceptModel, auth_with}
+use Rattle.scram_mech.specs.AuthParts.{AuthParts}
 use Rattle.scram_mech.specs.MechMaking.{TagKey, OfType, OfPassword}
 use Rattle.scram_mech.specs.ThirdText.{Third}
 use Rattle.spnego_core.specs.declared.outcome.Outcome.{Outcome}
+use Rattle.spnego_core.specs.declared.setup.MechCred.TheVariants as creds
 use Rattle.spnego_core.specs.Ends.{PlainSetup}
 use Rattle.spnego_core.specs.AcceptMech.{Basis, ByRequest, ByProof}
 use Rattle.spnego_core.specs.InitMech.{ticket_for}
+use Rattle.gss_client.specs.Session.{SessionState}
 use Rattle.world_laws.specs.declared.event.WorldEvent.{WorldEvent}
 use Rattle.world_laws.specs.Agreement.{Partner, HasPartner, TookRequest, TookProof}
 use Rattle.world_laws.specs.Below.{Below}
 use Rattle.world_laws.specs.Deeds.{Opened}
-use Rattle.world_laws.specs.Events.{Run}
-use Rattle.world_laws.specs.Premises.{Marking, Ticket, Listed, GuardedSession, GuardedBasis, Guarded, WasIssued, NoForgery, OnRequest, OnProof, HasAuth, HasTicket, HasAccount, Completed, AtInitiator, Fresh}
+use Rattle.world_laws.specs.Events.{Run, Begins}
+use Rattle.world_laws.specs.KnownList.{outcome_in, Finished, NoForgedList, IsNoCall, LeavesUntold}
+use Rattle.world_laws.specs.Stages.{StageSays}
+use Rattle.world_laws.specs.Stages as stages
+use Rattle.world_laws.specs.Premises.{Marking, Ticket, Listed, GuardedSession, MarkedLine, GuardedBasis, Guarded, OnTicket, OnAccount, OnGuarded, WasIssued, NoForgery, OnRequest, OnProof, HasAuth, HasTicket, HasAccount, session_in, Completed, AtInitiator, Fresh}
 use Rattle.world_laws.specs.Setups.{Proper}
 use Rattle.world_laws.specs.State.{Context, World}
 use Rattle.world_laws.proofs.Invariants.{Kept}
 use Rattle.world_laws.proofs.Kerberos.{same-cred, not-both}
 use Rattle.world_laws.proofs.Growing.{run-grows}
 use Rattle.world_laws.proofs.Holders.{proper-on}
+use Rattle.world_laws.proofs.ListsMet.{unforged-list}
 use Rattle.world_laws.proofs.Running.{kept-end}
 use Rattle.world_laws.proofs.ScramAgrees.{krb-is, other-kind, one-proof}
-use Rattle.world_laws.proofs.TakenTexts.{same-third}
-use Rattle.world_many.specs.Lists.{Apart, stamp_of, nonce_of, key_of, own_nonce_of, AreApart, AreMade, AllIssued, AreMatched, FreshByListsLaw}
+use Rattle.world_laws.proofs.TakenTexts.{Taken, taken, some-parts, same-third}
+use Rattle.world_many.specs.Lists.{Apart, stamp_of, nonce_of, key_of, own_nonce_of, AreApart, AreMade, AllIssued, AreMatched, AreDone, FreshByListsLaw}
 
 -- ---- lists
 
@@ -236,14 +245,76 @@ fresh-known laws marking w k = record {
   untold = λ i own c outcome has done mech built. untold-by laws marking w k i own c outcome built.context has done mech built.listed built.is_key built.context.fixed.basis refl built.guarded;
 }
 
-pub fresh-by-lists : Below → FreshByListsLaw
-fresh-by-lists laws marking old events new run begins issued made apart matched =
+known-lists : (laws : Below) (marking : Marking) (old : World) (events : List WorldEvent) (new : World) (run : Run old events new) → Begins old → AllIssued marking old events new run → AreMade marking new → AreApart new → AreMatched new → Known laws marking new
+known-lists laws marking old events new run begins issued made apart matched =
     let none = fresh-none marking new made apart in
-    fresh-known laws marking new (record {
+    record {
       proper = proper-on old new (run-grows old events new run) begins.proper;
       none = none;
       kept = kept-end laws (none_of marking) old events new run begins (none-forged marking old events new run issued) none;
       made = made;
       apart = apart;
       matched = matched;
-    })
+    }
+
+pub fresh-by-lists : Below → FreshByListsLaw
+fresh-by-lists laws marking old events new run begins issued made apart matched = fresh-known laws marking new (known-lists laws marking old events new run begins issued made apart matched)
+
+-- ---- what an acceptor's list asks
+
+-- whose context stands is done with its mechanism
+done-in : (stage : StageSays) (s : SessionState) → session_in stage ≡ Some s → outcome_in stage ≡ Some s.outcome
+done-in (stages.Ready own) s e = absurd (none-some s e)
+done-in (stages.Asks xid end) s e = absurd (none-some s e)
+done-in (stages.Stands t) s e = ap (λ (x : SessionState). Some x.outcome) (same_Some t s e)
+done-in (stages.Left t) s e = ap (λ (x : SessionState). Some x.outcome) (same_Some t s e)
+done-in stages.Over s e = absurd (none-some s e)
+
+all-matched : (marking : Marking) (w : World) → AreDone marking w → AreMatched w
+all-matched marking w d = λ i own outcome done. d.matched i own outcome (record { there = done.there; stage = done.stage; stands = done.stands; finished = done-in done.stage done.session done.in_session ∙ ap Some done.outcome_is })
+
+-- the AuthMessage of the context that took an initiator's proof, and the marked user's name in it
+user-is : (laws : Below) (marking : Marking) (w : World) → Known laws marking w → (own : PlainSetup) (x : Context) (end : AcceptModel) (text : List ℕ) → Listed w.fixed x → x.fixed.basis ≡ ByProof end text → (took : TookProof w own end text) (line : MarkedLine marking end.line)
+    → line.account.user ≡ took.proved.user
+user-is laws marking w k own x end text listed basis took line =
+    let t : Taken w x end text = taken laws.scram (none_of marking) w k.proper x end text (k.kept.found.proofs listed.place x end text listed.there basis) in
+    let same : auth_with end t.third.bare ≡ took.auth = one-auth end text (auth_with end t.third.bare) took.auth (record { third = t.third; read = t.read; auth_is = refl }) took.taken in
+    let parts : t.parts ≡ took.proved.parts = some-parts (auth_with end t.third.bare) took.auth t.parts took.proved.parts same t.reads took.proved.reads in
+    sym line.named ∙ (sym t.name ∙ (ap (λ (z : AuthParts). z.name) parts ∙ took.proved.name))
+
+-- who is done with a guarded context's key is on what guards it
+on-ticket : (marking : Marking) (own : PlainSetup) (request : Judged) → TookRequest own request → GuardedSession marking request.session → OnTicket marking own
+on-ticket marking own request took guarded = record { credential = took.credential; is_own = took.is_own; guarded = subst (λ (s : Key). GuardedSession marking s) took.session guarded }
+
+on-account : (marking : Marking) (w : World) (i : ℕ) (own : PlainSetup) (end : AcceptModel) (text : List ℕ) → AreDone marking w → slice_get w.facts i ≡ Some own → (took : TookProof w own end text) (line : MarkedLine marking end.line) → line.account.user ≡ took.proved.user → OnAccount marking own
+on-account marking w i own end text d there took line user =
+    let password : line.account.password ≡ took.proved.password = d.passwords i own took.proved.user took.proved.password line.account (record { there = there; is_own = took.proved.is_own }) line.marked user in
+    record { account = line.account; marked = line.marked; is_own = took.proved.is_own ∙ (λ j. Some (creds.Scram (sym user j) (sym password j))) }
+
+on-guarded : (laws : Below) (marking : Marking) (w : World) → Known laws marking w → AreDone marking w → (i : ℕ) (own : PlainSetup) (outcome : Outcome) → Finished w i own outcome → (x : Context) → Listed w.fixed x → x.fixed.outcome.key ≡ outcome.key
+    → (basis : Basis) → x.fixed.basis ≡ basis → GuardedBasis marking basis → OnGuarded marking own outcome.mech
+on-guarded laws marking w k d i own outcome f x listed key (ByRequest request) basis guarded =
+    let p = d.matched i own outcome f in
+    let is : p.context ≡ x = partner-is w k.apart.keys own outcome p x listed (sym key) in
+    let took = took-request w own p.context.fixed.basis request (ap (λ (z : Context). z.fixed.basis) is ∙ basis) p.partner in
+    let mech : kinds.Kerberos ≡ outcome.mech = sym (by-request laws marking w k x request listed basis) ∙ (ap (λ (z : Context). z.fixed.outcome.mech) (sym is) ∙ ap (λ (o : Outcome). o.mech) (sym p.agree)) in
+    subst (λ (kind : MechKind). OnGuarded marking own kind) mech (on-ticket marking own request took guarded)
+on-guarded laws marking w k d i own outcome f x listed key (ByProof end text) basis guarded =
+    let p = d.matched i own outcome f in
+    let is : p.context ≡ x = partner-is w k.apart.keys own outcome p x listed (sym key) in
+    let took = took-proof w own p.context.fixed.basis end text (ap (λ (z : Context). z.fixed.basis) is ∙ basis) p.partner in
+    let mech : kinds.Scram ≡ outcome.mech = sym (by-proof laws marking w k x end text listed basis) ∙ (ap (λ (z : Context). z.fixed.outcome.mech) (sym is) ∙ ap (λ (o : Outcome). o.mech) (sym p.agree)) in
+    subst (λ (kind : MechKind). OnGuarded marking own kind) mech
+    (on-account marking w i own end text d f.there took guarded (user-is laws marking w k own x end text listed basis took guarded))
+
+leaves-untold : (laws : Below) (marking : Marking) (w : World) → Known laws marking w → AreDone marking w → LeavesUntold marking w
+leaves-untold laws marking w k d = record {
+  lasting = d.lasting;
+  untold = λ i own outcome f built. on-guarded laws marking w k d i own outcome f built.context built.listed built.is_key built.context.fixed.basis refl built.guarded;
+  apart = λ i j x y end next auth last there other on also guarded key. keys-so w k.apart.keys i j x y there other key;
+}
+
+pub lists-by-lists : (laws : Below) (marking : Marking) (old : World) (events : List WorldEvent) (new : World) (run : Run old events new) → Begins old → AllIssued marking old events new run → NoForgery marking old events new run
+    → AllByRecursion IsNoCall events → AreMade marking new → AreApart new → AreDone marking new → NoForgedList marking new old events new run
+lists-by-lists laws marking old events new run begins issued none calls made apart d =
+    unforged-list laws marking old events new run begins none calls (leaves-untold laws marking new (known-lists laws marking old events new run begins issued made apart (all-matched marking new d)) d)

@@ -1,6 +1,7 @@
 -- A carried run of many meets the premises.
 use Rattle.std.proofs.Common.{◌≡◌, ℕ, ◌+◌, ◌<◌, ◌≤◌, ◌^◌, true, false, refl, sym, ap, ◌∙◌, subst, arith, List, [], ◌∷◌, ◌++◌, length, length-append, map, slice_get, Option, Some, None}
 use Rattle.std.specs.Prelude.{if◌then◌else◌, Bool}
+use Rattle.std.specs.List.{AllByRecursion}
 use Rattle.std.proofs.lemmas.Option.{none-some}
 use Rattle.gss_base.specs.declared.mech.MechKind.{MechKind}
 use Rattle.gss_base.specs.declared.mech.MechKind.TheVariants as kinds
@@ -13,18 +14,21 @@ use Rattle.accept_core.specs.declared.entry.Entry.{Entry}
 use Rattle.accept_core.specs.History.{taken_of}
 use Rattle.history_laws.proofs.Histories.{Fronts}
 use Rattle.world_laws.specs.declared.event.WorldEvent.{WorldEvent}
+use Rattle.world_laws.specs.declared.event.WorldEvent.TheVariants.{Start, Deliver, Lane, CallBy}
 use Rattle.world_laws.specs.Below.{Below}
 use Rattle.world_laws.specs.Stages.{StageSays}
 use Rattle.world_laws.specs.Stages as stages
+use Rattle.world_laws.specs.Deeds.{Deed}
 use Rattle.world_laws.specs.Events.{Run, Begins}
+use Rattle.world_laws.specs.KnownList.{IsNoCall}
 use Rattle.world_laws.specs.Premises.{Marking, NoForgery}
 use Rattle.world_laws.specs.State.{World}
 use Rattle.world_laws.proofs.Growing.{run-grows}
 use Rattle.world_runs.specs.Served.{served}
 use Rattle.world_runs.proofs.MetPairs.{honest, count-of}
 use Rattle.world_many.specs.Lists.{AllIssued}
-use Rattle.world_many.specs.Carried.{Line, Plan, Carries, IsHonest, AreHonest, line_of, lines_of, NoEnds, MetByManyLaw}
-use Rattle.world_many.proofs.ByLists.{at-map, from-map, fresh-by-lists}
+use Rattle.world_many.specs.Carried.{Line, CarriedBy, Plan, Carries, IsHonest, AreHonest, line_of, lines_of, NoEnds, IsCarriedRun, MetByManyLaw}
+use Rattle.world_many.proofs.ByLists.{at-map, from-map, fresh-by-lists, lists-by-lists}
 use Rattle.world_many.proofs.ManyEvents.{steps-on}
 use Rattle.world_many.proofs.ManyLanes.{lasting-front}
 use Rattle.world_many.proofs.ManyStates.{Pair, Placed, Carrying}
@@ -103,10 +107,28 @@ begins-so old now plans begins serves all = record {
       stands = λ own e. (same-ready own h.0 (sym e ∙ (begins.ready i h.0 h.1).0), refl, refl);
     })
 
+-- ---- nobody calls
+
+no-call : (now : ℕ) (lines : List Line) (event : WorldEvent) (deed : Deed) (old new : World) (after : List Line) → CarriedBy now lines event deed old new after → IsNoCall event
+no-call now lines (Start i) deed old new after c = tt
+no-call now lines (Deliver i octets first) deed old new after c = tt
+no-call now lines (Lane lane octets at draws) deed old new after c = tt
+no-call now lines (CallBy i procedure args) deed old new after c = c
+
+none-called : (now : ℕ) (lines : List Line) (old : World) (events : List WorldEvent) (new : World) (run : Run old events new) → Carries now lines old events new run → AllByRecursion IsNoCall events
+none-called now lines old [] new run c = tt
+none-called now lines old (event ∷ later) new run c = (no-call now lines event run.0.deed old run.0.world c.0 c.1, none-called now c.0 run.0.world later new run.1 c.2)
+
 -- ---- all of it
+
+unforged-many : (plans : List Plan) (now : ℕ) (old : World) (events : List WorldEvent) (new : World) (run : Run old events new) → IsCarriedRun plans now old events new run → (marking : Marking) → AllIssued marking old events new run → NoForgery marking old events new run
+unforged-many plans now old events new run carried marking issued =
+    walk old now plans marking events old new run (lines_of plans) (map no_id plans) (begins-so old now plans carried.begins carried.serves carried.honest) carried.carries carried.lasting carried.few issued
 
 pub met-by-many : Below → MetByManyLaw
 met-by-many laws plans now old events new run carried marking issued = record {
-  unforged = walk old now plans marking events old new run (lines_of plans) (map no_id plans) (begins-so old now plans carried.begins carried.serves carried.honest) carried.carries carried.lasting carried.few issued;
+  unforged = unforged-many plans now old events new run carried marking issued;
   fresh = fresh-by-lists laws marking old events new run carried.begins issued;
+  unforged_list = λ made apart done.
+      lists-by-lists laws marking old events new run carried.begins issued (unforged-many plans now old events new run carried marking issued) (none-called now (lines_of plans) old events new run carried.carries) made apart done;
 }

@@ -15,11 +15,12 @@ use Rattle.world_laws.specs.declared.event.WorldEvent.{WorldEvent}
 use Rattle.world_laws.specs.declared.event.WorldEvent.TheVariants.{Start, Deliver, Lane, CallBy}
 use Rattle.world_laws.specs.Deeds.{Deed}
 use Rattle.world_laws.specs.Events.{Run, Begins}
+use Rattle.world_laws.specs.KnownList.{NoForgedList}
 use Rattle.world_laws.specs.Premises.{Marking, NoForgery, Fresh}
 use Rattle.world_laws.specs.State.{World}
 use Rattle.world_runs.specs.Meeting.{occasions_at, ReadyFor}
 use Rattle.world_runs.specs.Served.{served}
-use Rattle.world_many.specs.Lists.{AllIssued, AreMade, AreApart, AreMatched}
+use Rattle.world_many.specs.Lists.{AllIssued, AreMade, AreApart, AreMatched, AreDone}
 
 -- ---- the network
 
@@ -149,6 +150,9 @@ pub record MeetsPremises (marking : Marking) (old : World) (events : List WorldE
     (run : Run old events new) : Type 0 where
   pub unforged : NoForgery marking old events new run
   pub fresh : AreMade marking new → AreApart new → AreMatched new → Fresh marking new
+  -- and what the law of an acceptor's list asks beside them
+  pub unforged_list : AreMade marking new → AreApart new → AreDone marking new
+      → NoForgedList marking new old events new run
 
 abbrev pub MetByManyLaw : Type 0
 MetByManyLaw = (plans : List Plan) (now : ℕ) (old : World) (events : List WorldEvent) (new : World)

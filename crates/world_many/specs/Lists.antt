@@ -1,6 +1,6 @@
 -- That what is listed pairwise different in a world is fresh: a law of every run, whatever
 -- initiators, contexts and mechanisms it has.
-use Rattle.std.specs.Prelude.{◌≡◌, ℕ, List, [], ◌∷◌, map, slice_get, Option, None, Some}
+use Rattle.std.specs.Prelude.{◌≡◌, ◌≢◌, ℕ, List, [], ◌∷◌, map, slice_get, Option, None, Some}
 use Rattle.std.specs.Prelude.{option_map}
 use Rattle.gss_base.specs.declared.mech.MechKind.TheVariants as kinds
 use Rattle.krb_derive.specs.declared.key.Etype.{Etype}
@@ -20,8 +20,10 @@ use Rattle.world_laws.specs.declared.event.WorldEvent.{WorldEvent}
 use Rattle.world_laws.specs.Agreement.{HasPartner}
 use Rattle.world_laws.specs.Deeds.{Opened}
 use Rattle.world_laws.specs.Events.{Run, Begins}
+use Rattle.world_laws.specs.KnownList.{Finished}
 use Rattle.world_laws.specs.Premises.{Marking, Ticket, Account, Listed, WasIssued, HasTicket}
-use Rattle.world_laws.specs.Premises.{Completed, Fresh}
+use Rattle.world_laws.specs.Premises.{HasAccount, Completed, Fresh}
+use Rattle.world_laws.specs.Stages.{Over}
 use Rattle.world_laws.specs.State.{Context, World}
 
 -- ---- lists of which no two are equal
@@ -106,3 +108,15 @@ abbrev pub FreshByListsLaw : Type 0
 FreshByListsLaw = (marking : Marking) (old : World) (events : List WorldEvent) (new : World)
     (run : Run old events new) → Begins old → AllIssued marking old events new run
     → AreMade marking new → AreApart new → AreMatched new → Fresh marking new
+
+-- ---- what the law of an acceptor's list asks beside these
+
+-- the same of each initiator whose mechanism is done, also before it completes; none ended before
+-- its context stood; and who has a marked user's name has its password
+pub record AreDone (marking : Marking) (w : World) : Type 0 where
+  pub matched : (i : ℕ) (own : PlainSetup) (outcome : Outcome) → Finished w i own outcome
+      → HasPartner w own outcome
+  pub lasting : (i : ℕ) → slice_get w.stages i ≢ Some Over
+  pub passwords : (i : ℕ) (own : PlainSetup) (user password : List ℕ) (account : Account)
+      → HasAccount w i own user password → Listed marking.accounts account → account.user ≡ user
+      → account.password ≡ password

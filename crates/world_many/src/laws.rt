@@ -16,7 +16,8 @@ pub fn prove_fresh_by_lists()
 
 /// Does nothing; its contract holds that runs of many meet the premises. Of any number of initiators, each an honest pair with the acceptor, by either
 /// mechanism, with the list's MICs where they are due and after a switch, whose records a network carries as they are, in any order among them: nothing
-/// is forged, whatever the reader marks, and all is fresh where the world's lists are apart.
+/// is forged, whatever the reader marks, and all is fresh where the world's lists are apart. What `prove_known_list` of `world_laws` asks beside these is
+/// met too, where nobody ended early, each initiator that is done with its mechanism has a partner, and a marked user's name comes with its password.
 pub fn prove_met_by_many()
     ensures { MetByManyLaw }
 {

@@ -46,7 +46,7 @@ use Rattle.world_laws.specs.Stages as stages
 use Rattle.world_laws.specs.Deeds.{Deed}
 use Rattle.world_laws.specs.State.{InHand, Context, World, moved_to}
 use Rattle.world_laws.specs.Events.{Moves, CallsBy, LanesBy, Happens}
-use Rattle.world_laws.specs.Headline.{Arrives, IsEnded, IsTaken}
+use Rattle.world_laws.specs.Arrival.{Arrives, IsEnded, IsTaken}
 use Rattle.world_laws.specs.Initiators.{calls, call_makings}
 use Rattle.world_laws.specs.Lanes.{question_of, ruling_of, hand_after, found_by, makes_by, opened_by, fixes_by, secure_call_in, made_for_call, with_lane, if_answered, Follows, LaneMoves}
 use Rattle.world_runs.specs.Served.{served}

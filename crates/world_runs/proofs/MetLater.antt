@@ -21,7 +21,7 @@ use Rattle.world_laws.specs.Stages.{StageSays}
 use Rattle.world_laws.specs.Stages as stages
 use Rattle.world_laws.specs.Deeds.{Deed}
 use Rattle.world_laws.specs.State.{World}
-use Rattle.world_laws.specs.Headline.{IsEnded}
+use Rattle.world_laws.specs.Arrival.{IsEnded}
 use Rattle.world_laws.specs.Initiators.{call_makings}
 use Rattle.world_runs.specs.Served.{own_terms}
 use Rattle.world_runs.specs.Carrying.{RulesCalls, sent_in, taken_in}

@@ -1,6 +1,7 @@
 -- That the premises can be met: of an honest pair's exchange nothing is forged, all is fresh, and both ends complete.
 use Rattle.std.proofs.Common.{◌≡◌, inl, inr, ℕ, zero, suc, ◌+◌, ◌*◌, ◌<◌, ◌≤◌, ◌^◌, lit<, true, refl, sym, ap, ◌∙◌, subst, arith, List, [], ◌∷◌, ◌++◌, length, map, replicate, take, drop, append-nil, slice_get, option_to_list, Option, Some, None, Result, Ok, Err, IfOk}
 use Rattle.std.specs.Prelude.{if◌then◌else◌, Bool, false}
+use Rattle.std.specs.List.{AllByRecursion}
 use Rattle.std.proofs.lemmas.Option.{none-some, same_Some}
 use Rattle.gss_base.specs.declared.mech.MechKind.{MechKind}
 use Rattle.gss_base.specs.declared.mech.MechKind.TheVariants as kinds
@@ -25,9 +26,11 @@ use Rattle.spnego_core.proofs.Makings.{among_split}
 use Rattle.accept_core.specs.declared.entry.Entry.{Entry}
 use Rattle.context_table.specs.Places.{live_of}
 use Rattle.accept_book.specs.Booking.{BookOf, names_of}
+use Rattle.accept_book.specs.RecordShown.{handle_of}
 use Rattle.accept_core.specs.Aging.{in_use}
 use Rattle.accept_core.specs.History.{Whole, opened, numbers, taken_of}
 use Rattle.gss_client.specs.Session.{SessionState, xid_after}
+use Rattle.gss_client.specs.Talk.{begun}
 use Rattle.pair_laws.proofs.Ruling.{IsId}
 use Rattle.world_laws.specs.declared.event.Happened.{Happened}
 use Rattle.world_laws.specs.declared.event.Happened.TheVariants.{Sent, Completed}
@@ -35,16 +38,19 @@ use Rattle.world_laws.specs.declared.event.WorldEvent.{WorldEvent}
 use Rattle.world_laws.specs.declared.event.WorldEvent.TheVariants.{Start, Deliver, Lane}
 use Rattle.world_laws.specs.Stages.{StageSays}
 use Rattle.world_laws.specs.Stages as stages
-use Rattle.world_runs.specs.Served.{told_width, served}
+use Rattle.world_runs.specs.Served.{own_terms, told_width, served}
 use Rattle.world_runs.specs.Carrying.{sent_in, completed_in, IsTurn}
 use Rattle.world_laws.specs.Deeds.{Deed}
 use Rattle.world_laws.specs.State.{InHand, Context, World}
 use Rattle.world_laws.specs.Lanes.{context_with}
 use Rattle.world_laws.specs.Events.{Run, Begins}
-use Rattle.world_runs.specs.Meeting.{AtStart, Meeting, IsCarried}
+use Rattle.world_laws.specs.Below.{Below}
+use Rattle.world_laws.specs.KnownList.{outcome_in, IsNoCall, LeavesUntold}
+use Rattle.world_runs.specs.Meeting.{AtStart, Meeting, IsMet, Rests, IsCarried}
 use Rattle.world_laws.specs.Premises.{Marking, Listed, WasMade, WasSettled, Unforged, HasTicket, session_in, Completed as CompletedWith, OnTicket, OnGuarded, Fresh, GuardedSession}
 use Rattle.world_runs.specs.Showing.{Shown, Shows, Ran, Follows, Steps}
 use Rattle.world_laws.proofs.Kerberos.{same-cred, not-both}
+use Rattle.world_laws.proofs.ListsMet.{unforged-list}
 use Rattle.world_runs.proofs.MetEvents.{world_in, Stays, Case, before, step_in, settled-passed, reply_to, call_of, Answers, answers-so, first_world, Starts, starts-so, TakesOn, takes-on, window_of, session_with, TakesLast, takes-last}
 use Rattle.world_runs.proofs.MetPairs.{setting_with, Honest, count-of, honest}
 use Rattle.world_runs.proofs.MetRounds.{Setting, setup_in, Marked, Heard, Took, Goes, Final, Ends, Rounds}
@@ -129,9 +135,27 @@ four-octets = refl
 
 -- ---- the run
 
--- a run so far, in which nothing was forged
+-- nobody called
+abbrev pub NoCalls : Shown → Type 0
+NoCalls shown = AllByRecursion IsNoCall shown.events
+
+all-on : (events : List WorldEvent) (event : WorldEvent) → AllByRecursion IsNoCall events → IsNoCall event → AllByRecursion IsNoCall (events ++ event ∷ [])
+all-on [] event all none = (none, tt)
+all-on (first ∷ later) event all none = (all.0, all-on later event all.1 none)
+
+none-on : (event : WorldEvent) (happened : Happened) (old shown : Shown) → Steps event (Some happened) old shown → NoCalls old → IsNoCall event → NoCalls shown
+none-on event happened old shown steps all none = subst (λ (es : List WorldEvent). AllByRecursion IsNoCall es) (sym steps.events) (all-on old.events event all none)
+
+-- a run so far, in which nothing was forged and nobody called
 abbrev pub PastOf : Setting → World → Shown → World → Type 0
-PastOf x start shown now = Past x.marking start shown now
+PastOf x start shown now = Past x.marking start shown now × NoCalls shown
+
+-- such a run, after which the world stands so
+pub record Led (shown : Shown) (kind : MechKind) : Type 0 where
+  pub met : IsMet shown
+  pub mech : met.outcome.mech ≡ kind
+  pub rests : Rests met.now met.own met.outcome met.context
+  pub uncalled : NoCalls shown
 
 -- before a turn: the initiator handed out a token last
 pub record Talks (x : Setting) (start : World) (left : ℕ) (draws : List (List ℕ)) (outcome : Outcome) (last : Happened) (shown : Shown) : Type 0 where
@@ -154,7 +178,7 @@ pub record Talks (x : Setting) (start : World) (left : ℕ) (draws : List (List 
 
 -- as the exchange came so far, with these draws left
 abbrev pub StandsBy : Setting → World → MechKind → List (List ℕ) → Outcome → Happened → Shown → Type 0
-StandsBy x start kind [] outcome last shown = (last ≡ Completed outcome) × IsCarried shown kind
+StandsBy x start kind [] outcome last shown = (last ≡ Completed outcome) × Led shown kind
 StandsBy x start kind (draws ∷ later) outcome last shown = Talks x start (suc (length later)) (draws ∷ later) outcome last shown
 
 pub record Carrying (kind : MechKind) (now : ℕ) (draws : List (List ℕ)) (last : Happened) (shown : Shown) : Type 0 where
@@ -200,7 +224,7 @@ record Replied (c : Case) (start : World) (happened : Happened) (shown : Shown) 
   past : PastOf c.x start shown (world_in c.x (stages.Asks c.xid c.initiator) answers.book answers.lanes (c.made ++ c.heard.accepted.makes) (c.fixed ++ option_to_list c.heard.accepted.fixes))
 
 replied : (c : Case) (start : World) (happened : Happened) (old shown : Shown) → PastOf c.x start old (before c) → Steps (Lane 0 (call_of c.xid c.id c.token) c.x.now c.draws) (Some happened) old shown → Replied c start happened shown
-replied c start happened old shown past steps = by (steps.follows (before c) past.shows)
+replied c start happened old shown past steps = by (steps.follows (before c) past.0.shows)
   where
     with : (f : Follows (Lane 0 (call_of c.xid c.id c.token) c.x.now c.draws) (Some happened) (before c) shown) → Answers c f.deed f.new → Replied c start happened shown
     with f a = record {
@@ -208,8 +232,11 @@ replied c start happened old shown past steps = by (steps.follows (before c) pas
       deed = f.deed;
       new = f.new;
       answers = a;
-      past = steps-on c.x.marking start (Lane 0 (call_of c.xid c.id c.token) c.x.now c.draws) happened (before c)
-          (world_in c.x (stages.Asks c.xid c.initiator) a.book a.lanes (c.made ++ c.heard.accepted.makes) (c.fixed ++ option_to_list c.heard.accepted.fixes)) old shown past steps f a.new_is (lane-unforged c f.deed f.new a);
+      past = (
+        steps-on c.x.marking start (Lane 0 (call_of c.xid c.id c.token) c.x.now c.draws) happened (before c)
+            (world_in c.x (stages.Asks c.xid c.initiator) a.book a.lanes (c.made ++ c.heard.accepted.makes) (c.fixed ++ option_to_list c.heard.accepted.fixes)) old shown past.0 steps f a.new_is (lane-unforged c f.deed f.new a),
+        none-on (Lane 0 (call_of c.xid c.id c.token) c.x.now c.draws) happened old shown steps past.1 tt,
+      );
     }
 
     by : Follows (Lane 0 (call_of c.xid c.id c.token) c.x.now c.draws) (Some happened) (before c) shown → Replied c start happened shown
@@ -235,14 +262,17 @@ record TookOn (x : Setting) (start : World) (xid : ℕ) (book : BookOf) (lanes :
 took-on : (x : Setting) (start : World) (xid : ℕ) (initiator : EndSays) (book : BookOf) (lanes : List (Option InHand)) (made : List MechMaking) (fixed : List Fixed) (reply : List ℕ) (t : Took initiator reply made) (next : EndSays) (further : List ℕ) → t.initiated.step ≡ init_steps.More next further
     → xid < 2 ^ 32 → length reply ≤ 65536 → (happened : Happened) (old shown : Shown) → PastOf x start old (world_in x (stages.Asks xid initiator) book lanes made fixed) → Steps (Deliver 0 (reply_to xid (accept_steps.More ends.New reply)) 1) (Some happened) old shown
     → TookOn x start xid book lanes made fixed t.initiated.makes next further happened shown
-took-on x start xid initiator book lanes made fixed reply t next further more fits few happened old shown past steps = by (steps.follows (world_in x (stages.Asks xid initiator) book lanes made fixed) past.shows)
+took-on x start xid initiator book lanes made fixed reply t next further more fits few happened old shown past steps = by (steps.follows (world_in x (stages.Asks xid initiator) book lanes made fixed) past.0.shows)
   where
     with : (f : Follows (Deliver 0 (reply_to xid (accept_steps.More ends.New reply)) 1) (Some happened) (world_in x (stages.Asks xid initiator) book lanes made fixed) shown) → TakesOn x xid book lanes made fixed t.initiated next further f.deed f.new
         → TookOn x start xid book lanes made fixed t.initiated.makes next further happened shown
     with f s = record {
       sent = same_Some happened (Sent (call_of (xid_after xid) (Some 1) further)) (sym f.answered ∙ s.answer);
-      past = steps-on x.marking start (Deliver 0 (reply_to xid (accept_steps.More ends.New reply)) 1) happened (world_in x (stages.Asks xid initiator) book lanes made fixed)
-          (world_in x (stages.Asks (xid_after xid) next) book lanes (made ++ t.initiated.makes) fixed) old shown past steps f s.new_is (goes-past x xid initiator book lanes made fixed reply t f.deed s.found s.opened);
+      past = (
+        steps-on x.marking start (Deliver 0 (reply_to xid (accept_steps.More ends.New reply)) 1) happened (world_in x (stages.Asks xid initiator) book lanes made fixed)
+            (world_in x (stages.Asks (xid_after xid) next) book lanes (made ++ t.initiated.makes) fixed) old shown past.0 steps f s.new_is (goes-past x xid initiator book lanes made fixed reply t f.deed s.found s.opened),
+        none-on (Deliver 0 (reply_to xid (accept_steps.More ends.New reply)) 1) happened old shown steps past.1 tt,
+      );
     }
 
     by : Follows (Deliver 0 (reply_to xid (accept_steps.More ends.New reply)) 1) (Some happened) (world_in x (stages.Asks xid initiator) book lanes made fixed) shown → TookOn x start xid book lanes made fixed t.initiated.makes next further happened shown
@@ -258,7 +288,7 @@ took-last : (x : Setting) (start : World) (xid : ℕ) (initiator : EndSays) (boo
     → fixed.outcome ≡ outcome → WasSettled book.core.history 1 → xid < 2 ^ 32 → length reply ≤ 65536 → (happened : Happened) (old shown : Shown) → PastOf x start old (world_in x (stages.Asks xid initiator) book lanes made (fixed ∷ []))
     → Steps (Deliver 0 (reply_to xid (accept_steps.Done outcome 0 reply)) 1) (Some happened) old shown
     → TookLast x start xid book lanes made fixed t.initiated.makes outcome happened shown
-took-last x start xid initiator book lanes made fixed reply t outcome done outcome_is settled fits few happened old shown past steps = by (steps.follows (world_in x (stages.Asks xid initiator) book lanes made (fixed ∷ [])) past.shows)
+took-last x start xid initiator book lanes made fixed reply t outcome done outcome_is settled fits few happened old shown past steps = by (steps.follows (world_in x (stages.Asks xid initiator) book lanes made (fixed ∷ [])) past.0.shows)
   where
     the-word : (making : MechMaking) → AmongMakings (window_of outcome ∷ []) making → WasMade (world_in x (stages.Asks xid initiator) book lanes made (fixed ∷ [])) making
     the-word making (inl is) = inr (record {
@@ -285,8 +315,11 @@ took-last x start xid initiator book lanes made fixed reply t outcome done outco
         → TookLast x start xid book lanes made fixed t.initiated.makes outcome happened shown
     with f s = record {
       completed = same_Some happened (Completed outcome) (sym f.answered ∙ s.answer);
-      past = steps-on x.marking start (Deliver 0 (reply_to xid (accept_steps.Done outcome 0 reply)) 1) happened (world_in x (stages.Asks xid initiator) book lanes made (fixed ∷ []))
-          (last_world x xid book lanes (made ++ t.initiated.makes) fixed outcome) old shown past steps f s.new_is (unforged f.deed s.found s.opened);
+      past = (
+        steps-on x.marking start (Deliver 0 (reply_to xid (accept_steps.Done outcome 0 reply)) 1) happened (world_in x (stages.Asks xid initiator) book lanes made (fixed ∷ []))
+            (last_world x xid book lanes (made ++ t.initiated.makes) fixed outcome) old shown past.0 steps f s.new_is (unforged f.deed s.found s.opened),
+        none-on (Deliver 0 (reply_to xid (accept_steps.Done outcome 0 reply)) 1) happened old shown steps past.1 tt,
+      );
     }
 
     by : Follows (Deliver 0 (reply_to xid (accept_steps.Done outcome 0 reply)) 1) (Some happened) (world_in x (stages.Asks xid initiator) book lanes made (fixed ∷ [])) shown → TookLast x start xid book lanes made fixed t.initiated.makes outcome happened shown
@@ -294,16 +327,16 @@ took-last x start xid initiator book lanes made fixed reply t outcome done outco
 
 -- how it left the world
 carried : (c : Case) (start : World) (deed : Deed) (new : World) (a : Answers c deed new) (kind : MechKind) (fixed : Fixed) (made : List MechMaking) (outcome : Outcome) (lasts : ℕ) (shown : Shown) → Begins start → Done c.x c.xid a.book a.lanes made fixed outcome → outcome.mech ≡ kind
-    → fixed.lasts ≡ lasts → Closes c a.book.core.history a.book.core.limit outcome lasts → xid_after c.xid < 2 ^ 32 → PastOf c.x start shown (last_world c.x c.xid a.book a.lanes made fixed outcome) → IsCarried shown kind
+    → fixed.lasts ≡ lasts → Closes c a.book.core.history a.book.core.limit outcome lasts → xid_after c.xid < 2 ^ 32 → PastOf c.x start shown (last_world c.x c.xid a.book a.lanes made fixed outcome) → Led shown kind
 carried c start deed new a kind fixed made outcome lasts shown begins d mech lasts_is closed fits past = record {
   met = record {
     marking = c.x.marking;
     start = start;
     now = last_world c.x c.xid a.book a.lanes made fixed outcome;
-    run = past.walked.run;
+    run = past.0.walked.run;
     begins = begins;
-    shows = past.shows;
-    unforged = past.walked.unforged;
+    shows = past.0.shows;
+    unforged = past.0.walked.unforged;
     fresh = fresh-so c.x c.xid a.book a.lanes made fixed outcome d;
     own = c.x.own;
     outcome = outcome;
@@ -329,6 +362,7 @@ carried c start deed new a kind fixed made outcome lasts shown begins d mech las
     uncalled = closed.uncalled;
     place = closed.place;
   };
+  uncalled = past.1;
 }
 
 -- ---- a turn
@@ -338,7 +372,7 @@ turn-of : (last happened : Happened) (now : ℕ) (draws call : List ℕ) (old ne
 turn-of last happened now draws call old new turn sent = turn call (ap sent_in sent)
 
 last-turn : (x : Setting) (start : World) (kind : MechKind) (draws : List ℕ) (outcome : Outcome) (last happened : Happened) (old new : Shown) → Marked x → Begins start → outcome.mech ≡ kind → Talks x start (suc 0) (draws ∷ []) outcome last old
-    → ((octets : List ℕ) → sent_in last ≡ Some octets → IsTurn octets x.now draws happened old new) → (happened ≡ Completed outcome) × IsCarried new kind
+    → ((octets : List ℕ) → sent_in last ≡ Some octets → IsTurn octets x.now draws happened old new) → (happened ≡ Completed outcome) × Led new kind
 last-turn x start kind draws outcome last happened old new marked begins mech t turn =
     let e : Ends x t.end t.initiator t.token (take 66 draws) t.made t.fixed outcome = t.rounds in
     let c : Case = case_of x start 0 draws [] outcome last old t e.heard in
@@ -459,12 +493,15 @@ record Sent_first (x : Setting) (start : World) (started : Started) (lanes : Lis
 
 started-so : (x : Setting) (started : Started) (lanes : List (Option InHand)) (happened : Happened) (old shown : Shown) → init_start x.own ≡ Ok started → PastOf x (first_world x lanes) old (first_world x lanes) → Steps (Start 0) (Some happened) old shown
     → Sent_first x (first_world x lanes) started lanes happened shown
-started-so x started lanes happened old shown begins past steps = by (steps.follows (first_world x lanes) past.shows)
+started-so x started lanes happened old shown begins past steps = by (steps.follows (first_world x lanes) past.0.shows)
   where
     with : (f : Follows (Start 0) (Some happened) (first_world x lanes) shown) → Starts x started lanes f.deed f.new → Sent_first x (first_world x lanes) started lanes happened shown
     with f s = record {
       sent = same_Some happened (Sent (call_of 1 None started.token)) (sym f.answered ∙ s.answer);
-      past = steps-on x.marking (first_world x lanes) (Start 0) happened (first_world x lanes) (world_in x (stages.Asks 1 started.end) x.book lanes started.makes []) old shown past steps f s.new_is (none-forged x.marking (first_world x lanes) f.deed s.found s.opened);
+      past = (
+        steps-on x.marking (first_world x lanes) (Start 0) happened (first_world x lanes) (world_in x (stages.Asks 1 started.end) x.book lanes started.makes []) old shown past.0 steps f s.new_is (none-forged x.marking (first_world x lanes) f.deed s.found s.opened),
+        none-on (Start 0) happened old shown steps past.1 tt,
+      );
     }
 
     by : Follows (Start 0) (Some happened) (first_world x lanes) shown → Sent_first x (first_world x lanes) started lanes happened shown
@@ -513,10 +550,13 @@ starts shown one book lanes now draws start m ran happened steps =
     let h = honest book m.own m.kind now draws (ap taken_of start.empty) m.pair m.ready in
     let x : Setting = setting_with book m.own now h.marking in
     let begins : Begins (first_world x (replicate lanes None)) = subst Begins r.start_is r.begins in
-    let past : PastOf x (first_world x (replicate lanes None)) shown (first_world x (replicate lanes None)) = record {
-      walked = subst (λ (es : List WorldEvent). Walked x.marking (first_world x (replicate lanes None)) es (first_world x (replicate lanes None))) (sym r.none) (record { run = refl; unforged = tt });
-      shows = subst (λ (w : World). Shows w shown) r.start_is r.shows;
-    } in
+    let past : PastOf x (first_world x (replicate lanes None)) shown (first_world x (replicate lanes None)) = (
+      record {
+        walked = subst (λ (es : List WorldEvent). Walked x.marking (first_world x (replicate lanes None)) es (first_world x (replicate lanes None))) (sym r.none) (record { run = refl; unforged = tt });
+        shows = subst (λ (w : World). Shows w shown) r.start_is r.shows;
+      },
+      subst (λ (es : List WorldEvent). AllByRecursion IsNoCall es) (sym r.none) tt,
+    ) in
     let s = started-so x m.pair.started (replicate lanes None) happened shown one m.pair.starts past steps in
     let count : length draws ≡ tokens_of book.setup m.own m.kind = sym (count-of now draws) ∙ m.pair.counted in
     let few = few-tokens (is_first (kinds_of m.own.list) m.kind) (is_mic_due book.setup.offer (own_list m.own) m.kind) m.kind in
@@ -568,5 +608,33 @@ turns-both last answered now draws octets reply old between new (Err error) sent
 pub is-completed : (kind : MechKind) (now : ℕ) (last : Happened) (shown : Shown) → Carrying kind now [] last shown → completed_in last ≡ true
 is-completed kind now last shown k = ap completed_in k.stands.0
 
-pub is-carried : (kind : MechKind) (now : ℕ) (last : Happened) (shown : Shown) → Carrying kind now [] last shown → IsCarried shown kind
-is-carried kind now last shown k = k.stands.1
+-- and the run leaves nothing to be told of the list
+the-stage : (w : World) (own : PlainSetup) (outcome : Outcome) (context : Context) (r : Rests w own outcome context) (i : ℕ) (stage : StageSays) → slice_get w.stages i ≡ Some stage → stage ≡ stages.Stands (begun own_terms 1 r.xid outcome (handle_of context.id))
+the-stage w own outcome context r i stage there = (one-place (stages.Stands (begun own_terms 1 r.xid outcome (handle_of context.id))) stage i (subst (λ (xs : List StageSays). slice_get xs i ≡ Some stage) r.stands there)).1
+
+not-over : (s : SessionState) → stages.Over ≡ stages.Stands s → ⊥
+not-over s e = cc
+
+leaves : (shown : Shown) (kind : MechKind) (l : Led shown kind) → LeavesUntold l.met.marking l.met.now
+leaves shown kind l = record {
+  lasting = λ i over. not-over _ (the-stage l.met.now l.met.own l.met.outcome l.met.context l.rests i stages.Over over);
+  untold = λ i own outcome f built. guarded own outcome
+      (one-place l.met.own own i (subst (λ (xs : List PlainSetup). slice_get xs i ≡ Some own) l.rests.facts f.there)).1
+      (same_Some outcome l.met.outcome (sym f.finished ∙ ap outcome_in (the-stage l.met.now l.met.own l.met.outcome l.met.context l.rests i f.stage f.stands)));
+  apart = λ i j x y end next auth last there other on also marked key.
+      same-place l.met.context x y i j (subst (λ (xs : List Context). slice_get xs i ≡ Some x) l.rests.fixed there) (subst (λ (xs : List Context). slice_get xs j ≡ Some y) l.rests.fixed other);
+}
+  where
+    guarded : (own : PlainSetup) (outcome : Outcome) → own ≡ l.met.own → outcome ≡ l.met.outcome → OnGuarded l.met.marking own outcome.mech
+    guarded own outcome is same = subst (λ (o : PlainSetup). OnGuarded l.met.marking o outcome.mech) (sym is) (subst (λ (o : Outcome). OnGuarded l.met.marking l.met.own o.mech) (sym same) l.met.guarded)
+
+carried-so : Below → (shown : Shown) (kind : MechKind) → Led shown kind → IsCarried shown kind
+carried-so laws shown kind l = record {
+  met = l.met;
+  unforged_list = unforged-list laws l.met.marking l.met.start shown.events l.met.now l.met.run l.met.begins l.met.unforged l.uncalled (leaves shown kind l);
+  mech = l.mech;
+  rests = l.rests;
+}
+
+pub is-carried : Below → (kind : MechKind) (now : ℕ) (last : Happened) (shown : Shown) → Carrying kind now [] last shown → IsCarried shown kind
+is-carried laws kind now last shown k = carried-so laws shown kind k.stands.1

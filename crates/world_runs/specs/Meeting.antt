@@ -24,6 +24,7 @@ use Rattle.accept_book.specs.RecordShown.{handle_of}
 use Rattle.gss_client.specs.Talk.{begun}
 use Rattle.world_laws.specs.Stages as stages
 use Rattle.world_laws.specs.Events.{Run, Begins}
+use Rattle.world_laws.specs.KnownList.{NoForgedList}
 use Rattle.world_laws.specs.Premises.{Marking, Listed, GuardedBasis, OnGuarded, WasSettled}
 use Rattle.world_laws.specs.Premises.{NoForgery, Fresh, Completed as CompletedWith}
 use Rattle.world_runs.specs.Showing.{Shown, Shows}
@@ -107,9 +108,11 @@ pub record Rests (w : World) (own : PlainSetup) (outcome : Outcome) (context : C
     pub uncalled : numbers context.id w.book.core.history ≡ []
     pub place : length w.book.core.history < w.book.core.limit
 
--- such a run, by this mechanism, after which the world stands so
+-- such a run, by this mechanism, after which the world stands so; and it meets what the law of an
+-- acceptor's list asks beside these premises
 pub record IsCarried (shown : Shown) (kind : MechKind) : Type 0 where
   pub met : IsMet shown
+  pub unforged_list : NoForgedList met.marking met.now met.start shown.events met.now met.run
   pub mech : met.outcome.mech ≡ kind
   pub rests : Rests met.now met.own met.outcome met.context
 

@@ -99,7 +99,8 @@ fn turn(
 ///
 /// Where nothing happened before, and both ends are an honest pair with as many tokens as draws (`Meeting`), both complete, by Kerberos or by SCRAM, with
 /// the list's MICs where they are due, and after a switch where the acceptor chose another mechanism than the initiator's first. The marking that has
-/// the chosen credential alone then shows that the run meets the premises: nothing is forged in it, and all is fresh.
+/// the chosen credential alone then shows that the run meets the premises: nothing is forged in it, and all is fresh. It meets what
+/// `prove_known_list` of `world_laws` asks beside these, too.
 pub fn meet(
     alloc: Global,
     world: &mut World,
@@ -118,6 +119,7 @@ pub fn meet(
     for drawn in draws {
         last = turn(alloc, world, last, now, drawn)?;
     }
+    tell_below();
     let met = is_completed(&last);
     drop(last);
     Ok(met)

@@ -29,5 +29,5 @@ returns-clause-met g c = λ book lanes start m.
       ∥∥₁_elim (c.loop-drawn.invariant.1 book lanes start m) (search props) (λ k.
           c.is_completed-met.ensures ∙ is-completed m.kind c.args.now c.loop-drawn.last (shown c.loop-drawn.world (λ b. (goal.Mech-dyn g b).meaning b.1)) (subst (λ (rest : List (List ℕ)). Carrying m.kind c.args.now rest c.loop-drawn.last (shown c.loop-drawn.world (λ b. (goal.Mech-dyn g b).meaning b.1))) whole k)),
       ∥∥₁_map (c.loop-drawn.invariant.1 book lanes start m) (λ k.
-          is-carried m.kind c.args.now c.loop-drawn.last (shown c.loop-drawn.world (λ b. (goal.Mech-dyn g b).meaning b.1)) (subst (λ (rest : List (List ℕ)). Carrying m.kind c.args.now rest c.loop-drawn.last (shown c.loop-drawn.world (λ b. (goal.Mech-dyn g b).meaning b.1))) whole k)),
+          is-carried c.tell_below.ensures m.kind c.args.now c.loop-drawn.last (shown c.loop-drawn.world (λ b. (goal.Mech-dyn g b).meaning b.1)) (subst (λ (rest : List (List ℕ)). Carrying m.kind c.args.now rest c.loop-drawn.last (shown c.loop-drawn.world (λ b. (goal.Mech-dyn g b).meaning b.1))) whole k)),
     )
