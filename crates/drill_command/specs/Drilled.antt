@@ -27,10 +27,18 @@ abbrev pub calls_of : ℕ → ℕ → ℕ → List DueCall
 calls_of seed calls number =
     calls_from (calls_in calls number) (value_before seed calls number)
 
--- the value of a generator after it gave a session's client its octets: 66 for the first token, and
--- 16 for each of so many calls
+-- the value of a generator after the 66 octets of a session's first token
+unfoldable pub after_start : ℕ → ℕ
+after_start x = after_steps 66 x
+
+-- its value after the 16 octets of each of so many calls
+unfoldable pub after_confounders : ℕ → ℕ → ℕ
+after_confounders count x = after_steps (16 * count) x
+
+-- its value after it gave a session's client its octets: those of the first token, and then those
+-- of so many calls
 abbrev pub after_client : ℕ → ℕ → ℕ
-after_client count x = after_steps (16 * count) (after_steps 66 x)
+after_client count x = after_confounders count (after_start x)
 
 -- the value of the client's generator before session `number`: it begins with the number after the
 -- seed, and goes on from session to session

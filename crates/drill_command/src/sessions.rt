@@ -19,13 +19,13 @@ ghost use Rattle.gss_client.specs.Start.{StartSays, objects_start, start_means};
 ghost use Rattle.gss_client.specs.Talk.{created_over};
 ghost use Rattle.gss_server.specs.Hearing.{serving};
 ghost use Rattle.gate_models.specs.Looping.{Since};
-ghost use Rattle.drill_plan.specs.Generator.{octets_from, after_steps};
+ghost use Rattle.drill_plan.specs.Generator.{octets_from};
 ghost use Rattle.drill_plan.specs.Sessions.{calls_in, session_count, moment_of, kind_of, own_name};
 ghost use Rattle.drill_plan.specs.Sessions.{blank_objects};
 ghost use Rattle.drill_plan.specs.Setting.{drill_start, started_by};
 ghost use Rattle.drill_command.specs.Calls.{calls_from, after_calls};
 ghost use Rattle.drill_command.specs.Chained.{IsAdded, IsFirst, AreAllHeld};
-ghost use Rattle.drill_command.specs.Drilled.{after_client};
+ghost use Rattle.drill_command.specs.Drilled.{after_start, after_confounders, after_client};
 ghost use Rattle.drill_command.specs.Held.{HoldsBehind, Holds};
 ghost use Rattle.drill_plan.specs.Limits.{book_limits, log_limits, drill_limits};
 
@@ -304,7 +304,7 @@ fn due_of(
     ensures place { OnOk result (generators.new.calls.value
         ≡ after_calls count generators.old.calls.value) }
     ensures client { OnOk result (generators.new.client.value
-        ≡ after_steps 66 generators.old.client.value) }
+        ≡ after_start generators.old.client.value) }
     ensures server { generators.new.server ≡ generators.old.server }
 {
     let calls = draw_calls(alloc, &mut generators.calls, count)?;
@@ -316,6 +316,14 @@ fn due_of(
             Err(none)
         }
     }
+}
+
+/// Passes over what a session's client draws for so many calls, 16 octets each.
+#[tactic(auto, unfolding(crate::specs::Drilled::after_confounders))]
+fn pass_calls(generator: &mut Generator, count: u32)
+    ensures { generator.new.value ≡ after_confounders count generator.old.value }
+{
+    generator.pass(16 * (count as u64));
 }
 
 /// Draws the calls of the next session and holds it, by a blank object of its mechanism.
@@ -356,9 +364,9 @@ fn next_session(
         }
     };
     let server = generators.server;
-    // (the session draws of a copy, 16 octets a call, which the generator then passes over)
+    // (the session draws of a copy)
     let mut draws = generators.client;
-    generators.client.pass(16 * (count as u64));
+    pass_calls(&mut generators.client, count);
     let held = hold_session(
         alloc,
         book,
