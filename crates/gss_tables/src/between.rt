@@ -16,7 +16,7 @@ pub struct Held<'a> {
     pub limits: &'a str,
     pub nows: &'a str,
     pub creation: &'a str,
-    pub record: &'a str,
+    pub first: &'a str,
     pub between: &'a str,
 }
 
@@ -27,7 +27,7 @@ struct Between<G> {
     own: G,
     other: G,
     desk: Desk,
-    record: Option<Vec<u8>>,
+    between: Option<Vec<u8>>,
     answered: Option<Answered>,
 }
 
@@ -81,8 +81,8 @@ impl<G: Gate> Gate for Between<G> {
 
     fn look(&mut self, id: u64, now: Moment) -> Result<Lease, LookRefusal> {
         let answer = self.own.look(id, now);
-        if let Some(record) = self.record.take() {
-            let octets = record.as_slice();
+        if let Some(octets) = self.between.take() {
+            let octets = octets.as_slice();
             let answered = answered(self.alloc, &mut self.other, &mut self.desk, octets);
             self.answered = Some(answered);
         }
@@ -148,12 +148,12 @@ pub fn hold<G: Gate>(
         own: first,
         other: second,
         desk,
-        record: Some(octets_of(cells, held.between)),
+        between: Some(octets_of(cells, held.between)),
         answered: None,
     };
     let mut desk = desk_of(cells, held.limits, held.nows);
-    let record = octets_of(cells, held.record);
-    let answer = answered(alloc, &mut gate, &mut desk, record.as_slice());
+    let octets = octets_of(cells, held.first);
+    let answer = answered(alloc, &mut gate, &mut desk, octets.as_slice());
     say(said, &answer);
     let Between {
         own,

@@ -248,7 +248,7 @@ pub fn answer_between<R: Wait>(rt: &R, setting: &Setting, cells: &mut Cells<'_>,
         limits,
         nows,
         creation,
-        record: cells.word(),
+        first: cells.word(),
         between: cells.word(),
     };
     match opened(rt, setting, limits, Asked::Held(held), cells, said) {
