@@ -1,5 +1,6 @@
 -- A session that writes a word into a register and reads it.
-use Rattle.std.specs.Prelude.{◌≡◌, ℕ, Bool, IsTrue, ◌==◌, List, [], ◌∷◌, ◌++◌, length, Option, codes}
+use Rattle.std.specs.Prelude.{◌≡◌, ℕ, Bool, IsTrue, ◌==◌, List, [], ◌∷◌, ◌++◌, length, Option}
+use Rattle.std.specs.Prelude.{codes}
 use Rattle.std.specs.Int.{w32, to_be_bytes}
 use Rattle.service_kit.specs.Calling.{DueCall, Outcome, Parting, TalkedOf, Terms, Wire}
 use Rattle.service_kit.specs.Calling.{password_start}

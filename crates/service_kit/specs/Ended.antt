@@ -12,7 +12,8 @@ use Rattle.server_options.specs.declared.ending.RunEnd.TheVariants as ends
 use Rattle.server_options.specs.declared.options.Options.{Options}
 use Rattle.server_command.specs.Runs.{HasLimits}
 use Rattle.service_kit.specs.declared.running.Ending.{Ending}
-use Rattle.service_kit.specs.declared.running.Ending.TheVariants.{Ended, NoDraws, NoControl, NoMemory}
+use Rattle.service_kit.specs.declared.running.Ending.TheVariants.{Ended, NoDraws, NoControl}
+use Rattle.service_kit.specs.declared.running.Ending.TheVariants.{NoMemory}
 
 -- the exit status of a run, by how it ended
 abbrev pub status_at : Ending → ℕ

@@ -1,7 +1,8 @@
 //! A bench: a program that is served in the thread of its callers, over a link in memory. Nothing of the system is used, and each run is the
 //! same.
 
-ghost use Rattle.std.specs.Prelude.{◌≡◌, ◌≢◌, ℕ, List, [], ◌∷◌, IfOk, IfErr, IfSome, Ok, Err, false};
+ghost use Rattle.std.specs.Prelude.{◌≡◌, ◌≢◌, List, [], ◌∷◌, IfOk, IfErr, IfSome, Ok, Err, false};
+ghost use Rattle.std.specs.Prelude.{ℕ};
 ghost use Rattle.gate_models.specs.LoopLink.{loop_gate, loop_draws};
 ghost use Rattle.sec_base.specs.MemDraw.{stated_octets};
 ghost use Rattle.scram_mech.specs.Verifiers.{verifiers_of};
