@@ -22,11 +22,10 @@ write_then_read word = asks WRITE (to_be_bytes w32 word) ∷ asks READ [] ∷ []
 abbrev pub register_terms : Terms
 register_terms = record { service = Integrity; program = PROGRAM; version = VERSION }
 
--- 66 octets were drawn, and with them a session of these calls was begun by the user's password
+-- octets were drawn, and with them a session of these calls was begun by the user's password
 pub record WritesAndReads (tells : Bool) (given given' : List ℕ) (word : ℕ) (old new : Wire)
     (outcome : Option Outcome) (results : List (List ℕ)) (parting : Parting) : Type 0 where
   pub draws : List ℕ
-  pub enough : length draws ≡ 66
   pub after : List ℕ
   pub drawn : IsTrue tells → after ≡ given ++ draws
   pub talked : TalkedOf tells after given'
