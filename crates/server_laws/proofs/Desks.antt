@@ -14,7 +14,7 @@ use Rattle.accept_core.specs.Logs.{LogOf}
 use Rattle.accept_book.specs.RecordShown.{Asked, booked}
 use Rattle.accept_book.specs.declared.book_answer.Admitted.{Admitted}
 use Rattle.accept_core.specs.declared.entry.Receipt.{Receipt}
-use Rattle.rpc_program.specs.Programs.{Serving}
+use Rattle.rpc_program.specs.Programs.{ProgramSays, Serving}
 use Rattle.rpc_program.specs.declared.program.Program as programs
 use Rattle.rpc_program.specs.declared.program.Speller as spellers
 use Rattle.accept_core.specs.declared.entry.Entry.{Entry}
@@ -49,7 +49,7 @@ use Rattle.server_laws.specs.Served.{IsOver, Meanwhile}
 use Rattle.server_laws.specs.ServerRun.{opened_book, book_notes, hand_of, hands_of, hands_in, DeskHad, AreTheirs, LogIsRun, ServerIsRun}
 use Rattle.server_laws.proofs.Beside.{Scripts, questions_in, beside}
 use Rattle.server_laws.proofs.Openings.{history-goes}
-use Rattle.server_laws.proofs.ToldOf.{all-apart, all-front, all-back, booked-notes, questions-booked}
+use Rattle.server_laws.proofs.ToldOf.{IsTaken, all-taken, own-taken, all-apart, all-front, all-back, booked-notes, questions-booked}
 use Rattle.server_laws.proofs.Turns.{heard-script}
 
 -- ---- one connection
@@ -68,8 +68,8 @@ each-script serves (cut ∷ records) (one ∷ kept) firsts exact over h apart =
       map booked p.late,
       ap (map booked) p.is ∙ map-append booked p.early p.late,
       exact.0.1,
-      heard-script serves (hand_of (octets_in cut) one) p.early over.0 p.first (all-front p.early p.late both),
-      each-script serves records kept p.late exact.1 over.1 p.second (all-back p.early p.late both),
+      heard-script serves (hand_of (octets_in cut) one) p.early over.0 p.first (all-front ToldApart p.early p.late both),
+      each-script serves records kept p.late exact.1 over.1 p.second (all-back ToldApart p.early p.late both),
     )
 
 decided-over : (serves : Serving) (records : List Fragments) (kept : List Kept) → AllDecided serves records kept → AllInOrder (OverAt serves) records kept
@@ -120,25 +120,28 @@ asks-join {T} {W} serves before middle after front later f s = record {
       (scripts-join serves front later (map receipted f.notes) (map receipted s.notes) f.scripts s.scripts);
 }
 
-link-asks : {T W L : Type 0} (spelling : spellers.Ghosts W T) → SpellsApart spelling → (journaled : Bool) (serves : Serving) (link : links.Ghosts L) (before : DeskAsked T W) (old : L) (one : ServedOf L) (after : DeskAsked T W) (s : ServedLink (Hears spelling journaled) serves link before old one after)
-    → Asks serves before (hands_of s.served.records one.answers) after
-link-asks spelling apart journaled serves link before old one after s =
-    let n = heard-all spelling journaled before after (asked_in serves s.served.records one.answers) s.served.asked in record {
+link-asks : {T W L : Type 0} (says : ProgramSays) (spelling : spellers.Ghosts W T) → SpellsApart says spelling → (journaled : Bool) (serves : Serving) (link : links.Ghosts L) (before : DeskAsked T W) (old : L) (one : ServedOf L) (after : DeskAsked T W) (s : ServedLink (Hears spelling journaled) serves link before old one after)
+    → AllByRecursion (IsTaken says) after.noted → Asks serves before (hands_of s.served.records one.answers) after
+link-asks {T} says spelling apart journaled serves link before old one after s takes =
+    let n = heard-all spelling journaled before after (asked_in serves s.served.records one.answers) s.served.asked in
+    let taken : AllByRecursion (IsTaken says) n.notes = all-back (IsTaken says) before.noted n.notes (subst (λ (xs : List (Noted T)). AllByRecursion (IsTaken says) xs) n.noted_is takes) in record {
       notes = n.notes;
       noted_is = n.noted_is;
       scripts = subst (λ (xs : List (Asked Receipt)). Scripts serves (hands_of s.served.records one.answers) xs) (all-booked spelling n.notes n.firsts before.speller after.speller n.told)
           (each-script serves s.served.records one.answers n.firsts s.served.exact (answered-over one.served.end serves s.served.records one.answers s.served.counted s.served.answered) n.hear
-          (all-apart spelling apart n.notes n.firsts before.speller after.speller n.told));
+          (all-apart says spelling apart n.notes n.firsts before.speller after.speller taken n.told));
     }
 
-links-ask : {T W L : Type 0} (spelling : spellers.Ghosts W T) → SpellsApart spelling → (journaled : Bool) (serves : Serving) (link : links.Ghosts L) (before : DeskAsked T W) (olds : List L) (served : List (ServedOf L)) (after : DeskAsked T W)
-    (s : LinksServed (Hears spelling journaled) serves link before olds served after) → Asks serves before (hands_in (Hears spelling journaled) serves link before olds served after s) after
-links-ask {T} {W} spelling apart journaled serves link before [] [] after s = record { notes = []; noted_is = ap (λ (d : DeskAsked T W). d.noted) s ∙ sym (append-nil before.noted); scripts = refl }
-links-ask spelling apart journaled serves link before [] (one ∷ more) after s = absurd s
-links-ask spelling apart journaled serves link before (old ∷ olds) [] after s = absurd s
-links-ask spelling apart journaled serves link before (old ∷ olds) (one ∷ more) after s =
-    asks-join serves before s.0 after (hands_of s.1.served.records one.answers) (hands_in (Hears spelling journaled) serves link s.0 olds more after s.2) (link-asks spelling apart journaled serves link before old one s.0 s.1)
-    (links-ask spelling apart journaled serves link s.0 olds more after s.2)
+links-ask : {T W L : Type 0} (says : ProgramSays) (spelling : spellers.Ghosts W T) → SpellsApart says spelling → (journaled : Bool) (serves : Serving) (link : links.Ghosts L) (before : DeskAsked T W) (olds : List L) (served : List (ServedOf L)) (after : DeskAsked T W)
+    (s : LinksServed (Hears spelling journaled) serves link before olds served after) → AllByRecursion (IsTaken says) after.noted → Asks serves before (hands_in (Hears spelling journaled) serves link before olds served after s) after
+links-ask {T} {W} says spelling apart journaled serves link before [] [] after s takes = record { notes = []; noted_is = ap (λ (d : DeskAsked T W). d.noted) s ∙ sym (append-nil before.noted); scripts = refl }
+links-ask says spelling apart journaled serves link before [] (one ∷ more) after s takes = absurd s
+links-ask says spelling apart journaled serves link before (old ∷ olds) [] after s takes = absurd s
+links-ask {T} {W} says spelling apart journaled serves link before (old ∷ olds) (one ∷ more) after s takes =
+    let later : Asks serves s.0 (hands_in (Hears spelling journaled) serves link s.0 olds more after s.2) after = links-ask says spelling apart journaled serves link s.0 olds more after s.2 takes in
+    let earlier : AllByRecursion (IsTaken says) s.0.noted = all-front (IsTaken says) s.0.noted later.notes (subst (λ (xs : List (Noted T)). AllByRecursion (IsTaken says) xs) later.noted_is takes) in
+    asks-join serves before s.0 after (hands_of s.1.served.records one.answers) (hands_in (Hears spelling journaled) serves link s.0 olds more after s.2)
+    (link-asks says spelling apart journaled serves link before old one s.0 s.1 earlier) later
 
 -- ---- each desk
 
@@ -190,14 +193,14 @@ own-by serves Had olds ends news i asked (Some old) (Some ending) (Some new) cou
 
 -- ---- the run of the server
 
-desk-had : {P C D K M T W L Q R : Type 0} (spelling : spellers.Ghosts W T) → SpellsApart spelling → (journaled : Bool) (faults faults' : ℕ) (serves : Serving) (most : ℕ) (port : ports.Ghosts P L) (link : links.Ghosts L) (clock : clocks.Ghosts C) (draw : draws.Ghosts D) (keeper : keepers.Ghosts K Kept Q)
+desk-had : {P C D K M T W L Q R : Type 0} (says : ProgramSays) (spelling : spellers.Ghosts W T) → SpellsApart says spelling → (journaled : Bool) (faults faults' : ℕ) (serves : Serving) (most : ℕ) (port : ports.Ghosts P L) (link : links.Ghosts L) (clock : clocks.Ghosts C) (draw : draws.Ghosts D) (keeper : keepers.Ghosts K Kept Q)
     (kept : keepers.Ghosts M (Served L) R) (i : ℕ) (old : Desk P C D K M W) (ending : DeskEnd) (new : Desk P C D K M W) (noted : List (Noted T))
-    → DeskTold spelling journaled faults faults' serves most port link clock draw keeper kept i old ending new noted
+    → AllByRecursion (IsTaken says) noted → DeskTold spelling journaled faults faults' serves most port link clock draw keeper kept i old ending new noted
     → (hands : List InHand) × Scripts serves hands (map receipted noted) × DeskHad spelling journaled faults faults' serves most port link clock draw keeper kept i old ending new noted hands
-desk-had {T = T} {W = W} spelling apart journaled faults faults' serves most port link clock draw keeper kept i old ending new noted t =
+desk-had {T = T} {W = W} says spelling apart journaled faults faults' serves most port link clock draw keeper kept i old ending new noted takes t =
     let s = t.served in
     let after : DeskAsked T W = record { desk = i; noted = noted; speller = new.speller; failed = t.failed } in
-    let a = links-ask spelling apart journaled serves link (unasked i old.speller) s.went.links s.went.served after s.went.each in (
+    let a = links-ask says spelling apart journaled serves link (unasked i old.speller) s.went.links s.went.served after s.went.each takes in (
       hands_in (Hears spelling journaled) serves link (unasked i old.speller) s.went.links s.went.served after s.went.each,
       subst (λ (xs : List (Noted T)). Scripts serves (hands_in (Hears spelling journaled) serves link (unasked i old.speller) s.went.links s.went.served after s.went.each) (map receipted xs)) (sym a.noted_is) a.scripts,
       record { told = t; are = refl },
@@ -232,11 +235,12 @@ server-run {V} {P} {C} {D} {K} {M} {T} {W} served spelling port link clock draw 
     let serves : Serving = serving spelling.says options.window in
     let most : ℕ = run_limit options.connections (length olds) in
     let journaled : Bool = is_some options.files.journal in
+    let takes : AllByRecursion (IsTaken served.says) (noted_in one.all) = all-taken served (noted_in one.all) one.first one.last one.chain in
     let own : (i : ℕ) → Own serves (λ (old : Desk P C D K M W) (ending : DeskEnd) (new : Desk P C D K M W) (hands : List InHand).
     DeskHad spelling journaled faults faults' serves most port link clock draw keeper kept i old ending new (noted_by i one.all) hands) olds one.ends news i (map receipted (noted_by i one.all)) =
     λ i. own-by serves (λ (old : Desk P C D K M W) (ending : DeskEnd) (new : Desk P C D K M W) (hands : List InHand).
     DeskHad spelling journaled faults faults' serves most port link clock draw keeper kept i old ending new (noted_by i one.all) hands) olds one.ends news i (map receipted (noted_by i one.all))
     (slice_get olds i) (slice_get one.ends i) (slice_get news i) one.count one.ends_count refl refl refl
-    (λ old new ending a b c. desk-had spelling apart journaled faults faults' serves most port link clock draw keeper kept i old ending new (noted_by i one.all) (one.each i old new ending a b c)) in
+    (λ old new ending a b c. desk-had served.says spelling apart journaled faults faults' serves most port link clock draw keeper kept i old ending new (noted_by i one.all) (own-taken served.says i one.all takes) (one.each i old new ending a b c)) in
     server-by (AreTheirs spelling journaled faults faults' serves most port link clock draw keeper kept olds one.ends news one.all) serves options keys start (length olds) one.first.book one.last.book log one.all (λ i. (own i).hands)
     one.opened.opened one.closed (books-asked served (noted_in one.all) one.first one.last one.chain) legal (record { each = λ i old new ending a b c. (own i).theirs old new ending a b c; others = λ i le. (own i).past le }) (λ i below. (own i).scripts below) (λ i le. (own i).past le) one.others w lane meanwhile is same free

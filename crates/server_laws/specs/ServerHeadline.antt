@@ -87,18 +87,16 @@ pub record OfThatLog (Are : (ℕ → List InHand) → Type 0) (meanwhile : (w : 
       → HeadlineOf marking old is.runs.events is.runs.next is.runs.run log
   pub once : StandsOnce log
 
--- the server's headline. What `run_server` promises of its log in `booked` and `legal` is enough:
--- files gave these keys, one book with them and one program answered all questions of all desks,
--- and the log is legal; what the program takes, and what is spelled, is told apart from what else
--- is signed by a context's key. Then for any initiators, whatever they do meanwhile, the headline
--- holds of that log, whatever the program does
-abbrev pub ServerHeadline : {F V P C D K M T W L Q R : Type 0} → shelves.Ghosts F
+-- the headline of a server with this program and this speller. What `run_server` promises of its
+-- log in `booked` and `legal` is enough: files gave these keys, one book with them and one program
+-- answered all questions of all desks, and the log is legal. Then for any initiators, whatever they
+-- do meanwhile, the headline holds of that log, whatever the program does
+abbrev pub HeadlineOfRuns : {F V P C D K M T W L Q R : Type 0} → shelves.Ghosts F
     → programs.Ghosts V T → spellers.Ghosts W T → ports.Ghosts P L → links.Ghosts L
     → clocks.Ghosts C → draws.Ghosts D → keepers.Ghosts K Kept Q → keepers.Ghosts M (Served L) R
     → Type 0
-ServerHeadline {F} {V} {P} {C} {D} {K} {M} {T} {W} shelf served spelling port link clock draw keeper
-    kept = IsApart spelling.says → SpellsApart spelling
-    → (options : Options) (keys : Keys) (start faults faults' : ℕ) (before after : F)
+HeadlineOfRuns {F} {V} {P} {C} {D} {K} {M} {T} {W} shelf served spelling port link clock draw keeper
+    kept = (options : Options) (keys : Keys) (start faults faults' : ℕ) (before after : F)
     (olds : List (Desk P C D K M W)) (old : V) (end : RunEnd) (news : List (Desk P C D K M W))
     (new : V) (log : LogOf)
     → KeysFrom shelf before after options.files options.name (Ok keys)
@@ -112,3 +110,13 @@ ServerHeadline {F} {V} {P} {C} {D} {K} {M} {T} {W} shelf served spelling port li
     clock draw keeper kept olds one.ends news one.all) meanwhile (book_notes one.all)
     (world_of (serving spelling.says options.window) initiators (opened_book options keys start)
     (length olds)) (reverse log.entries)
+
+-- the server's headline: it holds where what the program takes, and what is spelled for that, is
+-- told apart from what else is signed by a context's key
+abbrev pub ServerHeadline : {F V P C D K M T W L Q R : Type 0} → shelves.Ghosts F
+    → programs.Ghosts V T → spellers.Ghosts W T → ports.Ghosts P L → links.Ghosts L
+    → clocks.Ghosts C → draws.Ghosts D → keepers.Ghosts K Kept Q → keepers.Ghosts M (Served L) R
+    → Type 0
+ServerHeadline shelf served spelling port link clock draw keeper kept = IsApart spelling.says
+    → SpellsApart served.says spelling
+    → HeadlineOfRuns shelf served spelling port link clock draw keeper kept

@@ -150,7 +150,8 @@ abbrev pub ServerIsRun : {V P C D K M T W L Q R : Type 0} → programs.Ghosts V 
     → spellers.Ghosts W T → ports.Ghosts P L → links.Ghosts L → clocks.Ghosts C → draws.Ghosts D
     → keepers.Ghosts K Kept Q → keepers.Ghosts M (Served L) R → Type 0
 ServerIsRun {V} {P} {C} {D} {K} {M} {T} {W} served spelling port link clock draw keeper kept =
-    SpellsApart spelling → (options : Options) (keys : Keys) (start faults faults' : ℕ)
+    SpellsApart served.says spelling → (options : Options) (keys : Keys)
+    (start faults faults' : ℕ)
     (olds : List (Desk P C D K M W)) (before : V) (end : RunEnd) (news : List (Desk P C D K M W))
     (after : V) (log : LogOf)
     (one : OneHistory served spelling options keys start faults faults' port link clock draw keeper
