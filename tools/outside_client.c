@@ -1,4 +1,6 @@
 /* A client of the server over a system's own libraries: contexts by libtirpc and by the SPNEGO of MIT Kerberos, calls over them.
+ * Compiled with MIT_RPC, RPCSEC_GSS is by libgssrpc, the RPC library of MIT Kerberos. With BARE of the environment contexts are by Kerberos
+ * without SPNEGO.
  *
  *   outside_client PORT SERVER SERVICE CALLS [CONTEXTS [NULLS]]
  *
@@ -12,8 +14,13 @@
  * sent again, 10 without it. */
 #include <gssapi/gssapi.h>
 #include <gssapi/gssapi_krb5.h>
+#ifdef MIT_RPC
+#include <gssrpc/rpc.h>
+#include <gssrpc/auth_gss.h>
+#else
 #include <rpc/rpc.h>
 #include <rpc/auth_gss.h>
+#endif
 #include <arpa/inet.h>
 #include <stdio.h>
 #include <stdlib.h>
@@ -31,6 +38,8 @@ enum { LARGEST = 65536 };
 #endif
 
 static gss_OID_desc spnego = { 6, "\x2b\x06\x01\x05\x05\x02" };
+/* RFC 4121 section 1. */
+static gss_OID_desc kerberos = { 9, "\x2a\x86\x48\x86\xf7\x12\x01\x02\x02" };
 static struct timeval patience = { 10, 0 };
 
 struct octets {
@@ -141,7 +150,8 @@ static int nulls(CLIENT *client, int calls, double *spent)
 /* A context, and calls over it; whether all was right. */
 static int context(int port, gss_name_t server, int service, int calls, int null_calls, int first, u_int *posts, double *making, double *spent)
 {
-    struct rpc_gss_sec wanted = { &spnego, GSS_C_QOP_DEFAULT, service, GSS_C_NO_CREDENTIAL, GSS_C_MUTUAL_FLAG };
+    gss_OID mechanism = getenv("BARE") != NULL ? &kerberos : &spnego;
+    struct rpc_gss_sec wanted = { mechanism, GSS_C_QOP_DEFAULT, service, GSS_C_NO_CREDENTIAL, GSS_C_MUTUAL_FLAG };
     CLIENT *client = connected(port);
     if (client == NULL) {
         clnt_pcreateerror("no connection");

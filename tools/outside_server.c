@@ -1,5 +1,6 @@
 /* A server of the program over a system's own libraries: RPCSEC_GSS by libtirpc, contexts by the SPNEGO of MIT Kerberos.
- * Compiled with MIT_RPC, RPCSEC_GSS is by libgssrpc, the RPC library of MIT Kerberos. Compiled with DATAGRAMS, it serves over UDP; with CACHED of
+ * Compiled with MIT_RPC, RPCSEC_GSS is by libgssrpc, the RPC library of MIT Kerberos. With BARE of the environment contexts are by Kerberos without
+ * SPNEGO. Compiled with DATAGRAMS, it serves over UDP; with CACHED of
  * the environment the library then keeps so many replies, and answers a call that comes again by them.
  *
  *   outside_server PORT SERVER
@@ -32,13 +33,15 @@ enum { BUFFER = 200000, DATAGRAM = 8800 };
 enum { PROGRAM = 0x20004753, VERSION = 1, NOTHING = 0, ECHO = 1, WHOAMI = 2, POST = 3, COUNT = 4 };
 
 static gss_OID_desc spnego = { 6, "\x2b\x06\x01\x05\x05\x02" };
+/* RFC 4121 section 1. */
+static gss_OID_desc kerberos = { 9, "\x2a\x86\x48\x86\xf7\x12\x01\x02\x02" };
 
 /* Stands in for the library's function of this name: both libraries ask for credentials of the default mechanisms, among which SPNEGO isn't. */
 OM_uint32 gss_acquire_cred(OM_uint32 *minor, gss_name_t name, OM_uint32 seconds, gss_OID_set mechanisms, gss_cred_usage_t usage, gss_cred_id_t *credential, gss_OID_set *got, OM_uint32 *lasts)
 {
-    gss_OID_set_desc negotiated = { 1, &spnego };
+    gss_OID_set_desc taken = { 1, getenv("BARE") != NULL ? &kerberos : &spnego };
     (void)mechanisms;
-    return gss_acquire_cred_from(minor, name, seconds, &negotiated, usage, NULL, credential, got, lasts);
+    return gss_acquire_cred_from(minor, name, seconds, &taken, usage, NULL, credential, got, lasts);
 }
 
 typedef OM_uint32 get_mic(OM_uint32 *minor, gss_ctx_id_t context, gss_qop_t protection, gss_buffer_t message, gss_buffer_t mic);

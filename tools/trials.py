@@ -195,19 +195,19 @@ def are_answered(program, folder, port, server, runs):
     return outside_status(program, folder, port, make_other_ticket(folder), posts, ["integrity", "1"]) == 1 and right
 
 
-def over_outside_client(runs, is_realm):
-    """Tries the server, without users, with the client in C: the trial's status."""
+def over_outside_client(runs, is_realm, options=(), libraries=LIBRARIES):
+    """Tries the server, without users and with these options, with the client in C over these libraries: the trial's status."""
 
     def is_right(program, folder):
         port, verifiers = free_port(), os.path.join(folder, "server.verifiers")
         with open(verifiers, "wb"):
             pass
         files = ["--keytab", os.path.join(folder, "server.keytab"), "--verifiers", verifiers, "--name", SERVER]
-        command = [tool("gssrpcd"), f"127.0.0.1:{port}", *files, "--connections", "1000000", "--log", "1000000"]
+        command = [tool("gssrpcd"), f"127.0.0.1:{port}", *files, "--connections", "1000000", "--log", "1000000", *options]
         with running(command, port) as server:
             return server is not None and are_answered(program, folder, port, server, runs)
 
-    return over_outside("outside_client", [], is_realm, is_right)
+    return over_outside("outside_client", [], is_realm, is_right, libraries)
 
 
 # A NULL call without authentication and its reply, each a record of one fragment (RFC 5531 sections 9 and 11).
@@ -253,8 +253,8 @@ def called(words, due):
     return right
 
 
-def over_both(are_right):
-    """Makes the files of both ends, starts the server, and judges the calls at its address: the trial's status."""
+def over_both(are_right, options=()):
+    """Makes the files of both ends, starts the server with these options too, and judges the calls at its address: the trial's status."""
     if not are_built():
         return 1
     with tempfile.TemporaryDirectory() as folder:
@@ -265,7 +265,7 @@ def over_both(are_right):
         show_written("bob.password", PASSWORD)
         show_written("wrong.password", "crayon")
         port = free_port()
-        words = [f"127.0.0.1:{port}", "--keytab", "server.keytab", "--verifiers", "server.verifiers", "--name", SERVER]
+        words = [f"127.0.0.1:{port}", "--keytab", "server.keytab", "--verifiers", "server.verifiers", "--name", SERVER, *options]
         print("$ tools/gssrpcd", *words, "&", flush=True)
         with running([tool("gssrpcd"), *words], port) as server:
             right = server is not None and are_right(f"127.0.0.1:{port}")

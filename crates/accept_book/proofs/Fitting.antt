@@ -1,8 +1,10 @@
 -- A step of an acceptor's end that fits the marks leaves one that fits them.
-use Rattle.std.proofs.Common.{◌≡◌, ℕ, Bool, true, false, if◌then◌else◌, refl, sym, subst, List, map, length, Option, None, Some}
+use Rattle.std.proofs.Common.{◌≡◌, ℕ, Bool, true, false, if◌then◌else◌, refl, sym, subst, List, [], ◌∷◌, map, length, Option, None, Some}
 use Rattle.std.specs.Prelude.{Result, Ok, Err, IfOk, not}
 use Rattle.sec_base.specs.Answers.{Gives}
 use Rattle.gss_base.specs.declared.mech.MechKind.{MechKind}
+use Rattle.gss_base.specs.declared.mech.MechKind.TheVariants.{Kerberos}
+use Rattle.spnego_msgs.specs.declared.neg_state.NegState.{NegState}
 use Rattle.krb_tokens.specs.declared.end.Side.TheVariants.{Acceptor}
 use Rattle.ap_exchange.specs.declared.refusal.ApRefusal.{ApRefusal}
 use Rattle.ap_exchange.specs.declared.judged.Judged.{Judged}
@@ -22,7 +24,7 @@ use Rattle.spnego_core.specs.declared.setup.AcceptSetup.{AcceptSetup}
 use Rattle.spnego_core.specs.declared.accept_mech.AcceptMech.{AcceptMech}
 use Rattle.spnego_core.specs.declared.accept_mech.AcceptMech.TheVariants as mechs
 use Rattle.spnego_core.specs.declared.accept_end.Turn.{Turn}
-use Rattle.spnego_core.specs.declared.accept_end.Turn.TheVariants.{First, Later}
+use Rattle.spnego_core.specs.declared.accept_end.Turn.TheVariants.{First, Later, Bare}
 use Rattle.spnego_core.specs.declared.accept_end.Chosen.{Chosen}
 use Rattle.spnego_core.specs.declared.accept_end.Running.{Running}
 use Rattle.spnego_core.specs.declared.accept_end.Owing.{Owing}
@@ -33,8 +35,9 @@ use Rattle.spnego_core.specs.Steps.{◌>>=◌, due, or_refuse}
 use Rattle.spnego_core.specs.Tokens.{init_read, resp_read, rejects}
 use Rattle.spnego_core.specs.ListMic.{is_list_mic}
 use Rattle.spnego_core.specs.Choice.{best, is_first_named}
+use Rattle.spnego_core.specs.Bare.{bare_oid}
 use Rattle.spnego_core.specs.AcceptMech.{accept_taken, request_taken, text_taken, proof_taken}
-use Rattle.spnego_core.specs.Accepting.{Accepted, step_of, accept_step, begins, proceeds, closes, chose, started, run, gone_on, begun, token_for, settled}
+use Rattle.spnego_core.specs.Accepting.{Accepted, step_of, accept_step, begins, first_taken, proceeds, closes, chose, started, run, gone_on, begun, token_for, settled}
 use Rattle.std.proofs.Common.{◌∙◌, ◌≢◌, inl, inr}
 use Rattle.std.proofs.lemmas.Bool.{cases_eq}
 use Rattle.spnego_core.specs.declared.accept_end.Answered.TheVariants as afters
@@ -120,21 +123,27 @@ proceeds_fits setup now draws size running resp a auth none e =
     let q = bind_ok (or_refuse (Defective size) resp.token) (λ (token : List ℕ). run Later running.chosen (accept_taken setup running.mech token now draws)) a p.2 in
     run_fits Later running.chosen setup running.mech q.0 now draws a auth none q.2
 
-abbrev taken : Owing → List ℕ → Result Accepted NegRefusal
-taken owing mic = Ok (settled owing mic)
+abbrev taken : Owing → Option NegState → List ℕ → Result Accepted NegRefusal
+taken owing state mic = Ok (settled owing state mic)
 
 closes_fits : (owing : Owing) (resp : NegResp) (a : Accepted) (auth : Bool) → Fits (ends.Owes owing) auth → closes owing resp ≡ Ok a → StepFits a.step auth
 unfolding closes
 closes_fits owing resp a auth fits e =
-    let p = bind_ok (due Rejected (not (rejects resp.state))) (λ (goes : Unit {0}). or_refuse MicMissing resp.mic >>= (λ (mic : List ℕ). due MicBad (is_list_mic owing.outcome Acceptor owing.received mic) >>= (λ (right : Unit {0}). taken owing mic))) a e in
-    let q = bind_ok (or_refuse MicMissing resp.mic) (λ (mic : List ℕ). due MicBad (is_list_mic owing.outcome Acceptor owing.received mic) >>= (λ (right : Unit {0}). taken owing mic)) a p.2 in
-    let r = bind_ok (due MicBad (is_list_mic owing.outcome Acceptor owing.received q.0)) (λ (right : Unit {0}). taken owing q.0) a q.2 in
+    let p = bind_ok (due Rejected (not (rejects resp.state))) (λ (goes : Unit {0}). or_refuse MicMissing resp.mic >>= (λ (mic : List ℕ). due MicBad (is_list_mic owing.outcome Acceptor owing.received mic) >>= (λ (right : Unit {0}). taken owing resp.state mic))) a e in
+    let q = bind_ok (or_refuse MicMissing resp.mic) (λ (mic : List ℕ). due MicBad (is_list_mic owing.outcome Acceptor owing.received mic) >>= (λ (right : Unit {0}). taken owing resp.state mic)) a p.2 in
+    let r = bind_ok (due MicBad (is_list_mic owing.outcome Acceptor owing.received q.0)) (λ (right : Unit {0}). taken owing resp.state q.0) a q.2 in
     subst (λ (x : Accepted). StepFits x.step auth) (ok_same r.2) fits
+
+-- a first token: one that negotiates, or a request alone
+first_fits : (setup : AcceptSetup) (now : ℕ) (draws token : List ℕ) (oid : Option (List ℕ)) (a : Accepted) (auth : Bool) → auth ≡ false
+    → first_taken setup now draws token oid ≡ Ok a → StepFits a.step auth
+first_fits setup now draws token None a auth none e =
+    let p = bind_ok (init_read token) (begins setup now draws) a e in begins_fits setup now draws p.0 a auth none p.2
+first_fits setup now draws token (Some oid) a auth none e = run_fits Bare (begun setup (oid ∷ []) Kerberos).chosen setup mechs.Kerberos token now draws a auth none e
 
 pub step_fits : (setup : AcceptSetup) (end : AcceptEnd) (token : List ℕ) (now : ℕ) (draws : List ℕ) (a : Accepted) (auth : Bool) → Fits end auth
     → accept_step setup end token now draws ≡ Ok a → StepFits a.step auth
-step_fits setup ends.New token now draws a auth fits e =
-    let p = bind_ok (init_read token) (begins setup now draws) a e in begins_fits setup now draws p.0 a auth fits p.2
+step_fits setup ends.New token now draws a auth fits e = first_fits setup now draws token (bare_oid setup token) a auth fits e
 step_fits setup (ends.Runs running) token now draws a auth fits e =
     let p = bind_ok (resp_read token) (proceeds setup now draws (length token) running) a e in
     proceeds_fits setup now draws (length token) running p.0 a auth fits p.2

@@ -24,7 +24,7 @@ use Rattle.spnego_core.specs.declared.setup.AcceptSetup.{AcceptSetup}
 use Rattle.spnego_core.specs.declared.accept_mech.AcceptMech.{AcceptMech}
 use Rattle.spnego_core.specs.declared.accept_mech.AcceptMech.TheVariants as mechs
 use Rattle.spnego_core.specs.declared.accept_end.Turn.{Turn}
-use Rattle.spnego_core.specs.declared.accept_end.Turn.TheVariants.{First, Later}
+use Rattle.spnego_core.specs.declared.accept_end.Turn.TheVariants.{First, Later, Bare}
 use Rattle.spnego_core.specs.declared.accept_end.Chosen.{Chosen}
 use Rattle.spnego_core.specs.declared.accept_end.Running.{Running}
 use Rattle.spnego_core.specs.declared.accept_end.Owing.{Owing}
@@ -38,8 +38,9 @@ use Rattle.spnego_core.specs.Steps.{◌>>=◌, due, or_refuse}
 use Rattle.spnego_core.specs.Tokens.{init_read, resp_read, rejects}
 use Rattle.spnego_core.specs.ListMic.{is_list_mic}
 use Rattle.spnego_core.specs.Choice.{is_first_named, best}
+use Rattle.spnego_core.specs.Bare.{bare_oid}
 use Rattle.spnego_core.specs.AcceptMech.{request_taken, text_taken, proof_taken, accept_taken}
-use Rattle.spnego_core.specs.Accepting.{Fixed, Accepted, finished, gone_on, run, begun as mech_begun, token_for, started as mech_started, chose, begins, proceeds, settled, closes, accept_step}
+use Rattle.spnego_core.specs.Accepting.{Fixed, Accepted, finished, gone_on, run, begun as mech_begun, token_for, started as mech_started, chose, begins, first_taken, proceeds, settled, closes, accept_step}
 use Rattle.spnego_core.specs.AcceptLaws.{AcceptLaws, ByKerberos, ByScram, AfterStep, AfterAnswered, Stands as StandsBy, settled_of as owed_by}
 use Rattle.context_table.specs.Places.{Places, slot_at}
 use Rattle.accept_core.specs.declared.entry.Entry.{Entry}
@@ -144,13 +145,18 @@ on_closes : (owing : Owing) (resp : NegResp) → On (ends.Owes owing) (closes ow
 unfolding closes
 on_closes owing resp =
     on_due (ends.Owes owing) Rejected (not (rejects resp.state))
-    (or_refuse MicMissing resp.mic >>= (λ mic. due MicBad (is_list_mic owing.outcome Acceptor owing.received mic) >>= (λ right. Ok (settled owing mic))))
+    (or_refuse MicMissing resp.mic >>= (λ mic. due MicBad (is_list_mic owing.outcome Acceptor owing.received mic) >>= (λ right. Ok (settled owing resp.state mic))))
     (on_bind {A = List ℕ} (ends.Owes owing) (or_refuse MicMissing resp.mic)
-    (λ mic. due MicBad (is_list_mic owing.outcome Acceptor owing.received mic) >>= (λ right. Ok (settled owing mic)))
-    (λ mic. on_due (ends.Owes owing) MicBad (is_list_mic owing.outcome Acceptor owing.received mic) (Ok (settled owing mic)) (record { lasting = refl; unmarked = λ e. refl })))
+    (λ mic. due MicBad (is_list_mic owing.outcome Acceptor owing.received mic) >>= (λ right. Ok (settled owing resp.state mic)))
+    (λ mic. on_due (ends.Owes owing) MicBad (is_list_mic owing.outcome Acceptor owing.received mic) (Ok (settled owing resp.state mic)) (record { lasting = refl; unmarked = λ e. refl })))
+
+-- a first token: one that negotiates, or a request alone
+on_first : (setup : AcceptSetup) (now : ℕ) (draws token : List ℕ) (oid : Option (List ℕ)) → On ends.New (first_taken setup now draws token oid)
+on_first setup now draws token None = on_bind {A = NegInit} ends.New (init_read token) (begins setup now draws) (λ init. on_begins setup now draws init)
+on_first setup now draws token (Some oid) = on_mech setup ends.New now draws Bare (mech_begun setup (oid ∷ []) kinds.Kerberos).chosen mechs.Kerberos token refl
 
 on_step : (setup : AcceptSetup) (old : AcceptEnd) (token : List ℕ) (now : ℕ) (draws : List ℕ) → On old (accept_step setup old token now draws)
-on_step setup ends.New token now draws = on_bind {A = NegInit} ends.New (init_read token) (begins setup now draws) (λ init. on_begins setup now draws init)
+on_step setup ends.New token now draws = on_first setup now draws token (bare_oid setup token)
 on_step setup (ends.Runs running) token now draws =
     on_bind {A = NegResp} (ends.Runs running) (resp_read token) (proceeds setup now draws (length token) running) (λ resp. on_proceeds setup now draws (length token) running resp)
 on_step setup (ends.Owes owing) token now draws = on_bind {A = NegResp} (ends.Owes owing) (resp_read token) (closes owing) (λ resp. on_closes owing resp)

@@ -32,6 +32,7 @@ no_setup = record {
   verifiers = [];
   bindings = None;
   offer = [];
+  bare = false;
 }
 
 -- a question that stands for any other

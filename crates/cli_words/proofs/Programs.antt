@@ -38,24 +38,27 @@ server-options = (
         (
           record { name = codes "offer"; some = refl; spelled = refl; by_long = refl; by_id = refl },
           (
-            record { name = codes "window"; some = refl; spelled = refl; by_long = refl; by_id = refl },
+            record { name = codes "bare"; some = refl; spelled = refl; by_long = refl; by_id = refl },
             (
-              record { name = codes "connections"; some = refl; spelled = refl; by_long = refl; by_id = refl },
+              record { name = codes "window"; some = refl; spelled = refl; by_long = refl; by_id = refl },
               (
-                record { name = codes "contexts"; some = refl; spelled = refl; by_long = refl; by_id = refl },
+                record { name = codes "connections"; some = refl; spelled = refl; by_long = refl; by_id = refl },
                 (
-                  record { name = codes "marks"; some = refl; spelled = refl; by_long = refl; by_id = refl },
+                  record { name = codes "contexts"; some = refl; spelled = refl; by_long = refl; by_id = refl },
                   (
-                    record { name = codes "log"; some = refl; spelled = refl; by_long = refl; by_id = refl },
+                    record { name = codes "marks"; some = refl; spelled = refl; by_long = refl; by_id = refl },
                     (
-                      record { name = codes "desks"; some = refl; spelled = refl; by_long = refl; by_id = refl },
+                      record { name = codes "log"; some = refl; spelled = refl; by_long = refl; by_id = refl },
                       (
-                        record { name = codes "idle"; some = refl; spelled = refl; by_long = refl; by_id = refl },
+                        record { name = codes "desks"; some = refl; spelled = refl; by_long = refl; by_id = refl },
                         (
-                          record { name = codes "control"; some = refl; spelled = refl; by_long = refl; by_id = refl },
+                          record { name = codes "idle"; some = refl; spelled = refl; by_long = refl; by_id = refl },
                           (
-                            record { name = codes "journal"; some = refl; spelled = refl; by_long = refl; by_id = refl },
-                            (record { name = codes "digest"; some = refl; spelled = refl; by_long = refl; by_id = refl }, tt),
+                            record { name = codes "control"; some = refl; spelled = refl; by_long = refl; by_id = refl },
+                            (
+                              record { name = codes "journal"; some = refl; spelled = refl; by_long = refl; by_id = refl },
+                              (record { name = codes "digest"; some = refl; spelled = refl; by_long = refl; by_id = refl }, tt),
+                            ),
                           ),
                         ),
                       ),
@@ -77,7 +80,7 @@ server-address = record { by_index = refl; by_id = refl; next = refl }
 
 server-defaults : Each (λ (r : Rule). r.defaults ≡ []) (built server_app).top.rules
 unfolding clap_on_literals
-server-defaults = (refl, (refl, (refl, (refl, (refl, (refl, (refl, (refl, (refl, (refl, (refl, (refl, (refl, (refl, (refl, (refl, (refl, tt)))))))))))))))))
+server-defaults = (refl, (refl, (refl, (refl, (refl, (refl, (refl, (refl, (refl, (refl, (refl, (refl, (refl, (refl, (refl, (refl, (refl, (refl, tt))))))))))))))))))
 
 server-passing : list_all default_passes (built server_app).top.rules ≡ true
 unfolding clap_on_literals
@@ -131,12 +134,15 @@ client-options = (
         (
           record { name = codes "mechs"; some = refl; spelled = refl; by_long = refl; by_id = refl },
           (
-            record { name = codes "bind"; some = refl; spelled = refl; by_long = refl; by_id = refl },
+            record { name = codes "bare"; some = refl; spelled = refl; by_long = refl; by_id = refl },
             (
-              record { name = codes "service"; some = refl; spelled = refl; by_long = refl; by_id = refl },
+              record { name = codes "bind"; some = refl; spelled = refl; by_long = refl; by_id = refl },
               (
-                record { name = codes "times"; some = refl; spelled = refl; by_long = refl; by_id = refl },
-                (record { name = codes "first"; some = refl; spelled = refl; by_long = refl; by_id = refl }, tt),
+                record { name = codes "service"; some = refl; spelled = refl; by_long = refl; by_id = refl },
+                (
+                  record { name = codes "times"; some = refl; spelled = refl; by_long = refl; by_id = refl },
+                  (record { name = codes "first"; some = refl; spelled = refl; by_long = refl; by_id = refl }, tt),
+                ),
               ),
             ),
           ),
@@ -156,7 +162,7 @@ client-places = (record { by_index = refl; by_id = refl; next = refl }, (record 
 
 client-defaults : Each (λ (r : Rule). r.defaults ≡ []) (built client_app).top.rules
 unfolding clap_on_literals
-client-defaults = (refl, (refl, (refl, (refl, (refl, (refl, (refl, (refl, (refl, (refl, (refl, (refl, (refl, (refl, (refl, (refl, tt))))))))))))))))
+client-defaults = (refl, (refl, (refl, (refl, (refl, (refl, (refl, (refl, (refl, (refl, (refl, (refl, (refl, (refl, (refl, (refl, (refl, tt)))))))))))))))))
 
 client-passing : list_all default_passes (built client_app).top.rules ≡ true
 unfolding clap_on_literals

@@ -6,15 +6,15 @@ use Rattle.cli_base.specs.Words.{is_dashed, are_words, value_of, first_word, pla
 -- the names of the server's options
 abbrev pub server_names : List (List ℕ)
 server_names = codes "--keytab" ∷ codes "--verifiers" ∷ codes "--name" ∷ codes "--bind"
-    ∷ codes "--offer" ∷ codes "--window" ∷ codes "--connections" ∷ codes "--contexts"
-    ∷ codes "--marks" ∷ codes "--log" ∷ codes "--desks" ∷ codes "--idle"
-    ∷ codes "--control" ∷ codes "--journal" ∷ codes "--digest" ∷ []
+    ∷ codes "--offer" ∷ codes "--bare" ∷ codes "--window" ∷ codes "--connections"
+    ∷ codes "--contexts" ∷ codes "--marks" ∷ codes "--log" ∷ codes "--desks"
+    ∷ codes "--idle" ∷ codes "--control" ∷ codes "--journal" ∷ codes "--digest" ∷ []
 
 -- the names of the client's options
 abbrev pub client_names : List (List ℕ)
 client_names = codes "--ccache" ∷ codes "--server" ∷ codes "--user" ∷ codes "--password"
-    ∷ codes "--mechs" ∷ codes "--bind" ∷ codes "--service" ∷ codes "--times" ∷ codes "--first"
-    ∷ []
+    ∷ codes "--mechs" ∷ codes "--bare" ∷ codes "--bind" ∷ codes "--service" ∷ codes "--times"
+    ∷ codes "--first" ∷ []
 
 -- the words are in a command: a plain word stands first, at most `most` words are plain, and the
 -- options are of these names, each once, with its value

@@ -15,12 +15,13 @@ use sec_base::NoMemory;
 use std::alloc::Global;
 
 /// The options of the server: each with its word, which is its id too, and its name, the word without `--`.
-const SERVER_OPTIONS: [(&str, &str); 15] = [
+const SERVER_OPTIONS: [(&str, &str); 16] = [
     ("--keytab", "keytab"),
     ("--verifiers", "verifiers"),
     ("--name", "name"),
     ("--bind", "bind"),
     ("--offer", "offer"),
+    ("--bare", "bare"),
     ("--window", "window"),
     ("--connections", "connections"),
     ("--contexts", "contexts"),
@@ -34,12 +35,13 @@ const SERVER_OPTIONS: [(&str, &str); 15] = [
 ];
 
 /// The options of the client, each with its word and its name.
-const CLIENT_OPTIONS: [(&str, &str); 9] = [
+const CLIENT_OPTIONS: [(&str, &str); 10] = [
     ("--ccache", "ccache"),
     ("--server", "server"),
     ("--user", "user"),
     ("--password", "password"),
     ("--mechs", "mechs"),
+    ("--bare", "bare"),
     ("--bind", "bind"),
     ("--service", "service"),
     ("--times", "times"),

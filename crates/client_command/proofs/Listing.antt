@@ -1,21 +1,24 @@
 -- The credentials of listed names, read value by value.
-use Rattle.std.proofs.Common.{◌≡◌, ◌∙◌, ℕ, ◌+◌, ◌<◌, ◌≤◌, true, List, [], ◌∷◌, ◌++◌, append_assoc, length, drop, get_or, map, Option, Some, None, Result, Ok, Err, refl, ap, sym, subst}
+use Rattle.std.proofs.Common.{◌≡◌, ◌∙◌, ℕ, ◌+◌, ◌<◌, ◌≤◌, Bool, true, false, List, [], ◌∷◌, ◌++◌, append_assoc, length, drop, get_or, map, Option, Some, None, Result, Ok, Err, refl, ap, sym, subst}
 use Rattle.std.proofs.lemmas.List.{append-nil, at_drop_more, at_drop_all}
 use Rattle.std.specs.Prelude.{IfOk}
 use Rattle.sec_base.specs.Answers.{Gives}
 use Rattle.gss_base.specs.Mech.{oid_named}
 use Rattle.gss_base.specs.Name.{Name}
 use Rattle.gss_base.specs.declared.mech.KerberosName.{KerberosName}
+use Rattle.gss_base.specs.declared.mech.KerberosName.TheVariants.{Standard, Microsoft}
 use Rattle.gss_base.specs.declared.mech.MechName.{MechName}
 use Rattle.gss_base.specs.declared.mech.MechName.TheVariants as names
 use Rattle.krb_files.specs.Ccache.{granted_for}
 use Rattle.krb_files.specs.Granted.{Granted, Cache}
 use Rattle.spnego_core.specs.Choice.{are_few}
-use Rattle.spnego_core.specs.InitMech.{name_of, oid_listed, is_own_list}
+use Rattle.spnego_core.specs.InitMech.{name_of, oid_listed, is_own_list, is_bare_list}
 use Rattle.spnego_core.specs.declared.setup.MechCred.{MechCred}
+use Rattle.spnego_core.specs.declared.setup.MechCred.TheVariants as creds
 use Rattle.client_options.proofs.Naming.{behind}
 use Rattle.client_command.specs.Credentials.{◌>>=◌, or_none, ticket_for, login_of, cred_for, listed, creds_with}
 use Rattle.client_options.specs.Mechs.{is_list}
+use Rattle.client_options.specs.Words.{is_kerberos_alone, is_fit}
 use Rattle.client_options.specs.declared.ending.RunEnd.{RunEnd}
 use Rattle.client_options.specs.declared.ending.RunEnd.TheVariants.{NoMemory}
 use Rattle.client_options.specs.declared.words.Sources.{Sources}
@@ -74,6 +77,26 @@ pub own-given : (result : Result (List MechCred) RunEnd) (sources : Sources) (ca
 own-given (Ok creds) sources cache password given few =
     own-list creds sources.mechs (subst (λ (r : Result (List MechCred) RunEnd). AreNamed sources.mechs r) given (all-named (cred_for sources cache password) (cred-names sources cache password) sources.mechs)) few
 own-given (Err end) sources cache password given few = tt
+
+-- those of Kerberos alone are one that doesn't negotiate
+
+bare-named : (list : List MechCred) → is_kerberos_alone (map name_of list) ≡ true → is_bare_list list ≡ true
+bare-named [] e = absurd (let bad : false ≡ true = e in cc)
+bare-named (creds.Kerberos Standard granted ∷ []) e = refl
+bare-named (creds.Kerberos Microsoft granted ∷ []) e = absurd (let bad : false ≡ true = e in cc)
+bare-named (creds.Scram user password ∷ []) e = absurd (let bad : false ≡ true = e in cc)
+bare-named (one ∷ other ∷ more) e = absurd (let bad : false ≡ true = e in cc)
+
+pub bare-given : (result : Result (List MechCred) RunEnd) (sources : Sources) (cache : Option Cache) (password : Option (List ℕ))
+    → Gives NoMemory (λ list. list) result (creds_with sources cache password) → is_kerberos_alone sources.mechs ≡ true → IfOk result (λ list. is_bare_list list ≡ true)
+bare-given (Ok list) sources cache password given alone =
+    let named : map name_of list ≡ sources.mechs = subst (λ (r : Result (List MechCred) RunEnd). AreNamed sources.mechs r) given (all-named (cred_for sources cache password) (cred-names sources cache password) sources.mechs) in
+    bare-named list (ap is_kerberos_alone named ∙ alone)
+bare-given (Err end) sources cache password given alone = tt
+
+pub fit-alone : (negotiates : Bool) (list : List MechName) → is_fit negotiates list ≡ true → negotiates ≡ false → is_kerberos_alone list ≡ true
+fit-alone true list fit off = absurd (let bad : true ≡ false = off in cc)
+fit-alone false list fit off = fit
 
 -- ---- a list that is read on, value by value
 

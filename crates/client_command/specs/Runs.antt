@@ -64,10 +64,16 @@ command_of (Err refusal) = Served Null
 -- ---- the session
 
 -- what a session is begun with: the plan of the words, the credentials of their mechanisms, a
--- moment as stamp, and 66 random octets
+-- moment as stamp, 66 random octets, and whether a mechanism is negotiated
 abbrev pub start_of : Plan → List MechCred → ℕ → List ℕ → StartSays
 start_of plan creds stamp draws = record {
-  setup = record { list = creds; bindings = plan.bindings; stamp = stamp; draws = draws };
+  setup = record {
+    list = creds;
+    bindings = plan.bindings;
+    stamp = stamp;
+    draws = draws;
+    negotiates = plan.negotiates;
+  };
   terms = plan.terms;
   first = plan.first;
 }

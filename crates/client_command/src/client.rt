@@ -3,7 +3,7 @@
 ghost use Rattle.std.specs.Prelude.{◌≡◌, ◌≢◌, ◌≤◌, ◌⊎◌, [], List, false, true, IsTrue, IsOk, None};
 ghost use Rattle.std.specs.Prelude.{Ok, Err, IfOk, IfErr, map};
 ghost use Rattle.sec_base.specs.Answers.{Rose};
-ghost use Rattle.spnego_core.specs.InitMech.{is_own_list};
+ghost use Rattle.spnego_core.specs.InitMech.{is_own_list, is_bare_list};
 ghost use Rattle.spnego_core.specs.declared.setup.MechCred.{MechCred};
 ghost use Rattle.init_ends.specs.Arming.{AreStandard};
 ghost use Rattle.cli_base.specs.Lines.{SaysLine, Says};
@@ -15,7 +15,7 @@ ghost use Rattle.client_options.specs.Mechs.{is_list};
 ghost use Rattle.client_command.specs.Runs.{text_or_none, server_text, names_in, names_of};
 ghost use Rattle.client_command.specs.Runs.{command_of, Reports, Spoke, EndsSo};
 ghost use Rattle.client_command.specs.Runs.{HasHeld, HasSpoken, IsSilent};
-ghost use Rattle.client_options.specs.Words.{words_of, IsRanged};
+ghost use Rattle.client_options.specs.Words.{words_of, is_fit, IsRanged};
 
 use crate::credential::creds_given;
 use client_options::{
@@ -72,6 +72,7 @@ fn speak<L: Link, C: Clock, D: Draw>(
     requires unclosed { L.closed link.old ≡ false }
     requires mechs { AreStandard (map meaning mechs.items) }
     requires list { is_own_list creds ≡ true }
+    requires bare { plan.negotiates ≡ false → is_bare_list creds ≡ true }
     requires range { IsRanged plan }
     ensures told { IsTrue (L.tells link.old)
         → Spoke (C.tells clock.new) (C.given clock.old) (C.given clock.new) (D.tells draw.new)
@@ -90,6 +91,7 @@ fn speak<L: Link, C: Clock, D: Draw>(
         command,
         args,
         bindings,
+        negotiates,
         terms,
         times,
         first,
@@ -99,6 +101,7 @@ fn speak<L: Link, C: Clock, D: Draw>(
         bindings,
         stamp,
         draws,
+        negotiates,
     };
     let Ok(setup) = InitSetup::armed(alloc, mechs, facts) else {
         drop(args);
@@ -258,6 +261,7 @@ fn run_by<L: Link, C: Clock, D: Draw, O: Sink>(
     requires mechs { AreStandard (map meaning mechs.items) }
     requires range { IsRanged plan }
     requires own { IfOk creds (λ list. is_own_list list ≡ true) }
+    requires bare { plan.negotiates ≡ false → IfOk creds (λ list. is_bare_list list ≡ true) }
     requires unbegun { IfErr creds (λ end. is_begun end ≡ false) }
     ensures status { result.status ≢ 6 → result.status ≢ 8 → result.status ≡ status_of result.end }
     ensures sink_fault { result.status ≡ 6
@@ -312,6 +316,7 @@ fn run_with<F: Shelf, L: Link, C: Clock, D: Draw, O: Sink>(
     requires mechs { AreStandard (map meaning mechs.items) }
     requires range { IsRanged words.plan }
     requires list { is_list words.sources.mechs ≡ true }
+    requires fit { is_fit words.plan.negotiates words.sources.mechs ≡ true }
     ensures status { result.status ≢ 6 → result.status ≢ 8 → result.status ≡ status_of result.end }
     ensures sink_fault { result.status ≡ 6
         → Rose (O.faults out.old) (O.faults out.new) ⊎ Rose (O.faults err.old) (O.faults err.new) }
@@ -383,11 +388,11 @@ pub(crate) const UNNAMED: Names<'static> = Names {
 };
 
 /// Runs the client over a link, and says on `err` how the run ended. The words are
-/// `ADDRESS COMMAND [ARG ..] [--ccache FILE --server PRINCIPAL] [--user NAME --password FILE] [--mechs LIST] [--bind TEXT] [--service none|integrity|privacy]
-/// [--times N] [--first N]`, where COMMAND is `null`, `echo`, `whoami`, `post`, `count` or `call`; `echo` and `post` have an ARG in hexadecimal, and `call`
+/// `ADDRESS COMMAND [ARG ..] [--ccache FILE --server PRINCIPAL] [--user NAME --password FILE] [--mechs LIST] [--bare krb5] [--bind TEXT]
+/// [--service none|integrity|privacy] [--times N] [--first N]`, where COMMAND is `null`, `echo`, `whoami`, `post`, `count` or `call`; `echo` and `post` have an ARG in hexadecimal, and `call`
 /// has three numbers, of a program, its version and a procedure, and may have arguments in hexadecimal. LIST has
 /// one to three of the words `krb5`, `ms-krb5` and `scram`, each at most once and in any order, with commas between them; `ms-krb5` is Kerberos under Microsoft's object
-/// identifier. `mechs` has blank objects in any order, at least one under each name: Kerberos's own, Microsoft's, and SCRAM's. The session's mechanisms are those of them
+/// identifier. With `--bare krb5` nothing is negotiated: LIST is `krb5` then, or the words have the options of Kerberos alone. `mechs` has blank objects in any order, at least one under each name: Kerberos's own, Microsoft's, and SCRAM's. The session's mechanisms are those of them
 /// that get a credential. What the session agreed on and was answered is printed on `out`.
 pub fn run_client<F: Shelf, L: Link, C: Clock, D: Draw, O: Sink>(
     alloc: Global,

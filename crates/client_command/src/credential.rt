@@ -2,12 +2,13 @@
 
 ghost use Rattle.std.specs.Prelude.{◌≡◌, ◌≢◌, IsTrue, IfOk, IfErr, true, false};
 ghost use Rattle.sec_base.specs.Answers.{Gives, Rose};
-ghost use Rattle.spnego_core.specs.InitMech.{is_own_list};
+ghost use Rattle.spnego_core.specs.InitMech.{is_own_list, is_bare_list};
 ghost use Rattle.client_command.specs.Credentials.{ticket_for, login_of, cred_for, creds_with};
 ghost use Rattle.client_command.specs.Credentials.{creds_from, is_unloaded, Finds, AsksFor};
 ghost use Rattle.client_options.specs.Endings.{is_begun};
 ghost use Rattle.client_command.specs.Loading.{CredsFrom};
 ghost use Rattle.client_options.specs.Mechs.{is_list};
+ghost use Rattle.client_options.specs.Words.{is_kerberos_alone};
 
 use crate::files::{cache_given, password_given};
 use client_options::{RunEnd, Sources};
@@ -137,6 +138,8 @@ pub fn creds_given<F: Shelf>(
     ensures fault { IfErr result
         (λ end. is_unloaded end ≡ true → Rose (F.faults shelf.old) (F.faults shelf.new)) }
     ensures own { IfOk result (λ list. is_own_list list ≡ true) }
+    ensures bare { is_kerberos_alone sources.now.mechs ≡ true
+        → IfOk result (λ list. is_bare_list list ≡ true) }
     ensures unbegun { IfErr result (λ end. is_begun end ≡ false) }
     ensures other { IfErr result (λ end. end ≢ RunEnd.Usage) }
 {

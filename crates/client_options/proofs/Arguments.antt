@@ -9,7 +9,7 @@ use Rattle.rpc_msgs.specs.Words.{opaque}
 use Rattle.posts_client.specs.declared.procedure.Procedure.{Procedure}
 use Rattle.posts_client.specs.declared.procedure.Procedure.TheVariants.{Null, Echo, Whoami, Post, Count}
 use Rattle.mech_words.specs.Names.{same}
-use Rattle.client_options.specs.Words.{data_by, served, word_given, args_given, bare, with_data, numbered, asked_by, asked_in, is_command, service_given, plan_of, sources_of, words_of, IsData, IsArgument, IsOwn}
+use Rattle.client_options.specs.Words.{data_by, served, word_given, args_given, bare, with_data, numbered, asked_by, asked_in, is_command, service_given, plan_of, sources_of, words_of, negotiates_given, is_fit, IsData, IsArgument, IsOwn}
 use Rattle.client_options.specs.declared.command.Command.TheVariants.{Served, Numbered}
 use Rattle.client_options.specs.declared.words.Asked.{Asked}
 use Rattle.client_options.specs.declared.words.ClientWords.{ClientWords}
@@ -92,10 +92,11 @@ unfolding plan_of
 plan-own words plan e =
     let a = bind (asked_in (plain_of words)) _ plan e in
     let b = bind (data_given (value_of (codes "--bind") words)) _ plan a.2 in
-    let c = bind (service_given (value_of (codes "--service") words)) _ plan b.2 in
+    let n = bind (negotiates_given (value_of (codes "--bare") words)) _ plan b.2 in
+    let c = bind (service_given (value_of (codes "--service") words)) _ plan n.2 in
     let d = bind (number_given 1 1000 1 (value_of (codes "--times") words)) _ plan c.2 in
     let f = bind (number_given 1 2147483647 1 (value_of (codes "--first") words)) _ plan d.2 in
-    let is = ok-is (record { command = a.0.command; args = a.0.args; bindings = b.0; terms = record { service = c.0; program = a.0.program; version = a.0.version }; times = d.0; first = f.0 }) plan f.2 in
+    let is = ok-is (record { command = a.0.command; args = a.0.args; bindings = b.0; negotiates = n.0; terms = record { service = c.0; program = a.0.program; version = a.0.version }; times = d.0; first = f.0 }) plan f.2 in
     subst (λ (p : Plan). IsOwn p.command p.terms.program p.terms.version p.args) is (in-own (plain_of words) a.0 a.1)
 
 pub words-own : (words : List (List ℕ)) (asked : ClientWords) → words_of words ≡ Ok asked → IsOwn asked.plan.command asked.plan.terms.program asked.plan.terms.version asked.plan.args
@@ -104,5 +105,6 @@ words-own words asked e =
     let a = bind (demanded (is_command words)) _ asked e in
     let b = bind (sources_of words) _ asked a.2 in
     let c = bind (plan_of words) _ asked b.2 in
-    let is = ok-is (record { sources = b.0; plan = c.0 }) asked c.2 in
-    subst (λ (w : ClientWords). IsOwn w.plan.command w.plan.terms.program w.plan.terms.version w.plan.args) is (plan-own words c.0 c.1)
+    choose (is_fit c.0.negotiates b.0.mechs) (Ok (record { sources = b.0; plan = c.0 })) (Err Usage) asked (IsOwn asked.plan.command asked.plan.terms.program asked.plan.terms.version asked.plan.args)
+    (λ e. subst (λ (w : ClientWords). IsOwn w.plan.command w.plan.terms.program w.plan.terms.version w.plan.args) (ok-is (record { sources = b.0; plan = c.0 }) asked e) (plan-own words c.0 c.1))
+    (λ e. absurd cc) c.2

@@ -14,7 +14,7 @@ use Rattle.cli_base.specs.Words.{are_words, first_word, value_of, plain_of}
 use Rattle.cli_words.specs.Line.{IsLine, client_names}
 use Rattle.mech_words.specs.Names.{same, mech_named}
 use Rattle.client_options.specs.Mechs.{words_in, mechs_named, is_list, mechs_by, are_equipped, equipped, usual, mechs_given}
-use Rattle.client_options.specs.Words.{bare, with_data, numbered, asked_by, asked_in, is_command, is_line, name_by, server_given, has_krb5, has_scram, plan_of, sources_of, words_of}
+use Rattle.client_options.specs.Words.{bare, with_data, numbered, asked_by, asked_in, is_command, is_line, name_by, server_given, has_krb5, has_scram, plan_of, sources_of, joined, words_of}
 use Rattle.client_options.specs.declared.words.ClientWords.{ClientWords}
 use Rattle.client_options.specs.declared.words.Sources.{Sources}
 use Rattle.cli_base.specs.declared.given.WordsRefusal.{WordsRefusal}
@@ -142,7 +142,7 @@ unfolding words_of
 words-crowded words many = formed (is_command words)
   where
     rest : Sources → Result ClientWords WordsRefusal
-    rest sources = plan_of words >>= (λ plan. Ok (record { sources = sources; plan = plan }))
+    rest sources = plan_of words >>= joined sources
 
     planned : (r : Result Sources WordsRefusal) → Only r → (r >>= rest) ≡ Err Usage
     planned (Ok sources) p = rw (plan-crowded words many) refl

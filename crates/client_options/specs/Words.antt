@@ -1,10 +1,13 @@
 -- The words of the client, `ADDRESS COMMAND [ARG ..] [options]`: which are in its command, and what
 -- they ask for.
-use Rattle.std.specs.Prelude.{◌≡◌, ℕ, ◌<◌, ◌≤◌, Bool, ◌&&◌, nat_eq, nat_lt, nat_le}
-use Rattle.std.specs.Prelude.{List, [], length, slice_get, slice_index, codes, Option, Some}
-use Rattle.std.specs.Prelude.{None, is_some, Result, Ok, Err, if◌then◌else◌}
+use Rattle.std.specs.Prelude.{◌≡◌, ℕ, ◌<◌, ◌≤◌, Bool, true, ◌&&◌, nat_eq, nat_lt, nat_le}
+use Rattle.std.specs.Prelude.{false, List, [], ◌∷◌, length, slice_get, slice_index, codes, Option}
+use Rattle.std.specs.Prelude.{Some, None, is_some, Result, Ok, Err, if◌then◌else◌}
 use Rattle.gss_base.specs.Name.{Name}
 use Rattle.gss_base.specs.Signs.{parsed}
+use Rattle.gss_base.specs.declared.mech.KerberosName.TheVariants.{Standard, Microsoft}
+use Rattle.gss_base.specs.declared.mech.MechName.{MechName}
+use Rattle.gss_base.specs.declared.mech.MechName.TheVariants as mech_names
 use Rattle.gss_base.specs.declared.principal.NameRefusal.{NameRefusal}
 use Rattle.posts_client.specs.declared.procedure.Procedure.{Procedure}
 use Rattle.posts_client.specs.declared.procedure.Procedure.TheVariants.{Null, Echo, Whoami, Post}
@@ -135,11 +138,18 @@ abbrev pub service_given : Option (List ℕ) → Result Service WordsRefusal
 service_given None = Ok services.Integrity
 service_given (Some text) = service_by text
 
+-- a mechanism is negotiated unless the option names the one whose own token is sent (RFC 4178
+-- section 3.2)
+abbrev pub negotiates_given : Option (List ℕ) → Result Bool WordsRefusal
+negotiates_given None = Ok true
+negotiates_given (Some text) = if same text (codes "krb5") then Ok false else Err Usage
+
 -- what is called and how, from the command and its options
 unfoldable pub plan_of : List (List ℕ) → Result Plan WordsRefusal
 plan_of words = do
   asked ← asked_in (plain_of words)
   bound ← data_given (value_of (codes "--bind") words)
+  negotiates ← negotiates_given (value_of (codes "--bare") words)
   service ← service_given (value_of (codes "--service") words)
   times ← number_given 1 1000 1 (value_of (codes "--times") words)
   first ← number_given 1 2147483647 1 (value_of (codes "--first") words)
@@ -147,6 +157,7 @@ plan_of words = do
     command = asked.command;
     args = asked.args;
     bindings = bound;
+    negotiates = negotiates;
     terms = record { service = service; program = asked.program; version = asked.version };
     times = times;
     first = first;
@@ -182,13 +193,34 @@ sources_of words = do
 
 -- ---- the whole
 
+-- this name is Kerberos's own
+abbrev pub is_kerberos : MechName → Bool
+is_kerberos (mech_names.Kerberos Standard) = true
+is_kerberos (mech_names.Kerberos Microsoft) = false
+is_kerberos mech_names.Scram = false
+
+-- the list is Kerberos alone, under its own name
+abbrev pub is_kerberos_alone : List MechName → Bool
+is_kerberos_alone [] = false
+is_kerberos_alone (name ∷ []) = is_kerberos name
+is_kerberos_alone (name ∷ next ∷ names) = false
+
+-- a list is one for this way to begin: without negotiation it is Kerberos alone
+abbrev pub is_fit : Bool → List MechName → Bool
+is_fit negotiates list = if negotiates then true else is_kerberos_alone list
+
+-- the words' two halves, refused where the list isn't one for the way to begin
+abbrev pub joined : Sources → Plan → Result ClientWords WordsRefusal
+joined sources plan = if is_fit plan.negotiates sources.mechs
+    then Ok (record { sources = sources; plan = plan }) else Err Usage
+
 -- what the words ask for, refused exactly where they aren't in the command
 unfoldable pub words_of : List (List ℕ) → Result ClientWords WordsRefusal
 words_of words = do
   formed ← demanded (is_command words)
   sources ← sources_of words
   plan ← plan_of words
-  Ok (record { sources = sources; plan = plan })
+  joined sources plan
 
 -- octets in XDR, at most 65,536 of them
 pub record IsData (args : List ℕ) : Type 0 where

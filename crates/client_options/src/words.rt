@@ -12,6 +12,7 @@ ghost use Rattle.client_options.specs.Words.{asked_by, asked_in};
 ghost use Rattle.client_options.specs.Mechs.{is_list, mechs_given};
 ghost use Rattle.client_options.specs.Words.{name_by, server_given, is_given, has_krb5, has_scram};
 ghost use Rattle.client_options.specs.Words.{sources_of, service_by, service_given, plan_of};
+ghost use Rattle.client_options.specs.Words.{negotiates_given, is_fit, joined};
 ghost use Rattle.client_options.specs.Words.{words_of, AreOctets, IsRanged};
 
 use crate::command::Command;
@@ -19,7 +20,7 @@ use crate::mechs::mechs_given;
 pub use cli_base::{WordsRefusal, address_of};
 use cli_base::{are_words, count_plain, demand, first_word, number_in};
 use cli_words::{Line, bindings_given, client_line, number_given, texts_of};
-use gss_base::{Bindings, MechName, NameRefusal, Principal};
+use gss_base::{Bindings, KerberosName, MechName, NameRefusal, Principal};
 use gss_client::{Service, Terms};
 use hex::FromHexError;
 use posts_client::Procedure;
@@ -41,6 +42,8 @@ pub struct Plan {
     /// The arguments, in XDR.
     pub args: Octets,
     pub bindings: Option<Bindings>,
+    /// Whether a mechanism is negotiated; else the first token is Kerberos's own.
+    pub negotiates: bool,
     /// The program, its version, and how the calls are protected.
     pub terms: Terms,
     /// How many calls are made, from 1 to 1,000.
@@ -105,6 +108,7 @@ fn is_command(words: &[Text]) -> bool
                 "--user",
                 "--password",
                 "--mechs",
+                "--bare",
                 "--bind",
                 "--service",
                 "--times",
@@ -406,6 +410,35 @@ fn service_given(line: &Line<'_>) -> Result<Service, WordsRefusal>
     }
 }
 
+/// Whether a mechanism is negotiated: unless the option names the one whose own token is sent.
+fn negotiates_given(line: &Line<'_>) -> Result<bool, WordsRefusal>
+    ensures { result ≡ negotiates_given (value_of (codes "--bare") line.now) }
+{
+    match line.value("--bare") {
+        None => Ok(true),
+        Some(text) => {
+            if text == "krb5" {
+                Ok(false)
+            } else {
+                Err(WordsRefusal::Usage)
+            }
+        }
+    }
+}
+
+/// Whether a list is one for this way to begin: without negotiation it is Kerberos alone, under its own name.
+fn is_fit(negotiates: bool, list: &[MechName]) -> bool
+    ensures { result ≡ is_fit negotiates list.now }
+{
+    if negotiates {
+        return true;
+    }
+    match list {
+        [MechName::Kerberos(KerberosName::Standard)] => true,
+        _ => false,
+    }
+}
+
 /// Does nothing: these are octets.
 fn tell_octets(octets: &[u8])
     ensures { AreOctets octets.now }
@@ -422,6 +455,7 @@ fn plan_of(alloc: Global, line: &Line<'_>) -> Result<Plan, WordsRefusal>
     let asked = asked_in(alloc, line)?;
     tell_octets(asked.args.as_slice());
     let bindings = bindings_given(alloc, line)?;
+    let negotiates = negotiates_given(line)?;
     let service = service_given(line)?;
     let times = number_given(line, "--times", 1, 1000, 1)?;
     let first = number_given(line, "--first", 1, 0x7fff_ffff, 1)?;
@@ -434,10 +468,27 @@ fn plan_of(alloc: Global, line: &Line<'_>) -> Result<Plan, WordsRefusal>
         command: asked.command,
         args: asked.args,
         bindings,
+        negotiates,
         terms,
         times,
         first,
     })
+}
+
+/// The sources and the plan of words, where the list is one for the way to begin.
+fn joined(sources: Sources, plan: Plan) -> Result<ClientWords, WordsRefusal>
+    requires range { IsRanged plan }
+    requires list { is_list sources.mechs ≡ true }
+    ensures value { result ≡ joined sources plan }
+    ensures range { IfOk result (λ w. IsRanged w.plan) }
+    ensures list { IfOk result (λ w. is_list w.sources.mechs ≡ true) }
+    ensures fit { IfOk result (λ w. is_fit w.plan.negotiates w.sources.mechs ≡ true) }
+{
+    if is_fit(plan.negotiates, sources.mechs.as_slice()) {
+        Ok(ClientWords { sources, plan })
+    } else {
+        Err(WordsRefusal::Usage)
+    }
 }
 
 /// What a line of the command asks for.
@@ -447,10 +498,11 @@ fn read_line(alloc: Global, line: &Line<'_>) -> Result<ClientWords, WordsRefusal
     ensures value { Gives WordsRefusal.NoMemory (λ w. w) result (words_of line.now) }
     ensures range { IfOk result (λ w. IsRanged w.plan) }
     ensures list { IfOk result (λ w. is_list w.sources.mechs ≡ true) }
+    ensures fit { IfOk result (λ w. is_fit w.plan.negotiates w.sources.mechs ≡ true) }
 {
     let sources = sources_of(alloc, line)?;
     match plan_of(alloc, line) {
-        Ok(plan) => Ok(ClientWords { sources, plan }),
+        Ok(plan) => joined(sources, plan),
         Err(refusal) => {
             drop(sources);
             Err(refusal)
@@ -464,6 +516,7 @@ fn read_form(alloc: Global, words: &[Text]) -> Result<ClientWords, WordsRefusal>
     ensures value { Gives WordsRefusal.NoMemory (λ w. w) result (words_of words.now) }
     ensures range { IfOk result (λ w. IsRanged w.plan) }
     ensures list { IfOk result (λ w. is_list w.sources.mechs ≡ true) }
+    ensures fit { IfOk result (λ w. is_fit w.plan.negotiates w.sources.mechs ≡ true) }
 {
     let texts = texts_of(alloc, words)?;
     let line = client_line(alloc, texts.as_slice())?;
@@ -475,6 +528,7 @@ pub fn read_words(alloc: Global, words: &[Text]) -> Result<ClientWords, WordsRef
     ensures value { Gives WordsRefusal.NoMemory (λ w. w) result (words_of words.now) }
     ensures range { IfOk result (λ w. IsRanged w.plan) }
     ensures list { IfOk result (λ w. is_list w.sources.mechs ≡ true) }
+    ensures fit { IfOk result (λ w. is_fit w.plan.negotiates w.sources.mechs ≡ true) }
 {
     if is_line(words) {
         read_form(alloc, words)

@@ -3,7 +3,7 @@
 ghost use Rattle.std.specs.Prelude.{◌≡◌, false, true, IfOk, IfErr};
 ghost use Rattle.client_options.specs.Endings.{is_begun};
 ghost use Rattle.datagram_calls.specs.Credentials.{is_short, are_short, short_creds};
-ghost use Rattle.spnego_core.specs.InitMech.{is_own_list};
+ghost use Rattle.spnego_core.specs.InitMech.{is_own_list, is_bare_list};
 
 use client_options::RunEnd;
 use sec_base::Items;
@@ -40,6 +40,8 @@ pub(crate) fn short_creds(creds: Result<Items<MechCred>, RunEnd>) -> Result<Item
     requires unbegun { IfErr creds (λ end. is_begun end ≡ false) }
     ensures value { result ≡ short_creds creds }
     ensures own { IfOk result (λ list. is_own_list list ≡ true) }
+    ensures bare { IfOk creds (λ list. is_bare_list list ≡ true)
+        → IfOk result (λ list. is_bare_list list ≡ true) }
     ensures unbegun { IfErr result (λ end. is_begun end ≡ false) }
 {
     match creds {

@@ -8,11 +8,11 @@ ghost use Rattle.client_command.specs.Runs.{names_in};
 ghost use Rattle.client_options.specs.Endings.{is_begun};
 ghost use Rattle.client_options.specs.Lines.{lines};
 ghost use Rattle.client_options.specs.Mechs.{is_list};
-ghost use Rattle.client_options.specs.Words.{IsRanged};
+ghost use Rattle.client_options.specs.Words.{is_fit, IsRanged};
 ghost use Rattle.datagram_calls.specs.Runs.{Reports, Behind, Runs};
 ghost use Rattle.datagram_options.specs.Endings.{call_status, call_line};
 ghost use Rattle.init_ends.specs.Arming.{AreStandard};
-ghost use Rattle.spnego_core.specs.InitMech.{is_own_list};
+ghost use Rattle.spnego_core.specs.InitMech.{is_own_list, is_bare_list};
 
 use crate::credentials::short_creds;
 use crate::speaking::{Spoken, speak};
@@ -144,6 +144,7 @@ fn run_by<P: Post, C: Clock, D: Draw, O: Sink>(
     requires range { IsRanged plan }
     requires tries { 0 < tries }
     requires own { IfOk creds (λ list. is_own_list list ≡ true) }
+    requires bare { plan.negotiates ≡ false → IfOk creds (λ list. is_bare_list list ≡ true) }
     requires unbegun { IfErr creds (λ end. is_begun end ≡ false) }
     ensures status { result.status ≢ 6 → result.status ≢ 8
         → result.status ≡ call_status result.end }
@@ -195,6 +196,7 @@ pub fn run_call<F: Shelf, P: Post, C: Clock, D: Draw, O: Sink>(
     requires mechs { AreStandard (map meaning mechs.items) }
     requires range { IsRanged words.plan }
     requires list { is_list words.sources.mechs ≡ true }
+    requires fit { is_fit words.plan.negotiates words.sources.mechs ≡ true }
     requires tries { 0 < tries }
     // The status and the line on `err`: those of the end, unless there was no memory for the line, or a sink failed.
     ensures status { result.status ≢ 6 → result.status ≢ 8

@@ -1,6 +1,6 @@
 //! The session of a run over datagrams: its creation, its calls one after the other, and its end.
 
-ghost use Rattle.std.specs.Prelude.{◌≡◌, ◌≢◌, ◌≤◌, ◌<◌, true, IsTrue, IfErr, map};
+ghost use Rattle.std.specs.Prelude.{◌≡◌, ◌≢◌, ◌≤◌, ◌<◌, true, false, IsTrue, IfErr, map};
 ghost use Rattle.std.specs.Prelude.{length};
 ghost use Rattle.sec_base.specs.Answers.{Rose};
 ghost use Rattle.client_options.specs.Words.{IsRanged};
@@ -10,7 +10,7 @@ ghost use Rattle.datagram_calls.specs.Sessions.{Holds, Speaks};
 ghost use Rattle.gss_client.specs.Start.{start_means};
 ghost use Rattle.init_ends.specs.Arming.{AreStandard};
 ghost use Rattle.init_ends.specs.Objects as objects;
-ghost use Rattle.spnego_core.specs.InitMech.{is_own_list};
+ghost use Rattle.spnego_core.specs.InitMech.{is_own_list, is_bare_list};
 
 use client_options::{Command, Plan, RunEnd};
 use datagram_client::{DatagramSession, PostRefusal};
@@ -227,6 +227,7 @@ pub(crate) fn speak<P: Post, C: Clock, D: Draw>(
 ) -> Spoken
     requires mechs { AreStandard (map meaning mechs.items) }
     requires list { is_own_list creds ≡ true }
+    requires bare { plan.negotiates ≡ false → is_bare_list creds ≡ true }
     requires range { IsRanged plan }
     requires tries { 0 < tries }
     ensures told { IsTrue (P.tells post.old) → Speaks P.Post C.Clock D.Draw plan tries creds
@@ -248,6 +249,7 @@ pub(crate) fn speak<P: Post, C: Clock, D: Draw>(
         command,
         args,
         bindings,
+        negotiates,
         terms,
         times,
         first,
@@ -257,6 +259,7 @@ pub(crate) fn speak<P: Post, C: Clock, D: Draw>(
         bindings,
         stamp,
         draws,
+        negotiates,
     };
     let Ok(setup) = InitSetup::armed(alloc, mechs, facts) else {
         drop(args);

@@ -10,7 +10,7 @@ use Rattle.cli_base.specs.Words.{are_words, first_word}
 use Rattle.cli_base.specs.declared.given.WordsRefusal.{WordsRefusal}
 use Rattle.cli_base.specs.declared.given.WordsRefusal.TheVariants.{Usage}
 use Rattle.client_options.specs.Mechs.{is_list}
-use Rattle.client_options.specs.Words.{words_of}
+use Rattle.client_options.specs.Words.{words_of, is_fit}
 use Rattle.client_options.specs.Words as clients
 use Rattle.client_options.specs.declared.words.ClientWords.{ClientWords}
 use Rattle.mech_words.specs.Names.{same}
@@ -44,8 +44,8 @@ with_name name at words = take at words ++ name ∷ drop (at + 1) words
 -- the names of its options
 abbrev pub serve_names : List (List ℕ)
 serve_names = codes "--keytab" ∷ codes "--verifiers" ∷ codes "--name" ∷ codes "--bind"
-    ∷ codes "--offer" ∷ codes "--window" ∷ codes "--datagrams" ∷ codes "--contexts"
-    ∷ codes "--marks" ∷ codes "--log" ∷ []
+    ∷ codes "--offer" ∷ codes "--bare" ∷ codes "--window" ∷ codes "--datagrams"
+    ∷ codes "--contexts" ∷ codes "--marks" ∷ codes "--log" ∷ []
 
 -- each option is of these names, once, with its value
 abbrev pub is_served : List (List ℕ) → Bool
@@ -79,8 +79,8 @@ served words = do
 -- the names of its options
 abbrev pub call_names : List (List ℕ)
 call_names = codes "--ccache" ∷ codes "--server" ∷ codes "--user" ∷ codes "--password"
-    ∷ codes "--mechs" ∷ codes "--bind" ∷ codes "--service" ∷ codes "--times" ∷ codes "--first"
-    ∷ codes "--tries" ∷ []
+    ∷ codes "--mechs" ∷ codes "--bare" ∷ codes "--bind" ∷ codes "--service" ∷ codes "--times"
+    ∷ codes "--first" ∷ codes "--tries" ∷ []
 
 -- each option is of these names, once, with its value
 abbrev pub is_called : List (List ℕ) → Bool
@@ -132,4 +132,5 @@ address_in (word ∷ words) = first_word words
 abbrev pub IsAsked : Asked → Type 0
 IsAsked (Serve options) = servers.IsRanged options
 IsAsked (Call words tries) =
-    clients.IsRanged words.plan × (is_list words.sources.mechs ≡ true) × (0 < tries)
+    clients.IsRanged words.plan × (is_list words.sources.mechs ≡ true)
+    × (is_fit words.plan.negotiates words.sources.mechs ≡ true) × (0 < tries)

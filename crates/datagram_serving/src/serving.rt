@@ -86,6 +86,7 @@ fn open_seat(
         verifiers: keys.verifiers,
         bindings: options.bindings,
         offer: options.offer,
+        bare: options.bare,
     };
     OwnSeat::open(alloc, setup, limits, start)
 }

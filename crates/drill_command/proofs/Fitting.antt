@@ -1,5 +1,5 @@
 -- The facts of a drill's two ends fit.
-use Rattle.std.proofs.Common.{◌≡◌, ℕ, zero, suc, ◌+◌, ◌*◌, ◌/◌, ◌%◌, ◌^◌, ◌≤◌, ◌<◌, ◌&&◌, lit≤, Bool, true, refl, ap, arith, List, [], ◌∷◌, ◌++◌, length, take, drop, Some, None, Ok, is_ok, codes, nat_lt}
+use Rattle.std.proofs.Common.{◌≡◌, ℕ, zero, suc, ◌+◌, ◌*◌, ◌/◌, ◌%◌, ◌^◌, ◌≤◌, ◌<◌, ◌&&◌, lit≤, Bool, true, false, refl, ap, arith, List, [], ◌∷◌, ◌++◌, length, take, drop, Some, None, Ok, is_ok, codes, nat_lt}
 use Rattle.std.specs.Prelude.{pos}
 use Rattle.std.specs.List.{AllByRecursion}
 use Rattle.std.proofs.lemmas.Bool.{le-leb}
@@ -233,6 +233,7 @@ meets-by kinds.Kerberos number draws long bytes day opens occasions counted give
   is_cred = refl;
   counted = counted;
   facts = tickets-meet number draws day opens occasions given;
+  bare = λ e. absurd (let f : true ≡ false = e in cc);
 }
 meets-by kinds.Scram number draws long bytes day opens occasions counted given = record {
   begins = text-begins (moment_of number) draws;
@@ -241,6 +242,7 @@ meets-by kinds.Scram number draws long bytes day opens occasions counted given =
   is_cred = refl;
   counted = counted;
   facts = users-meet number draws long bytes occasions given;
+  bare = λ e. absurd (let f : true ≡ false = e in cc);
 }
 
 pub fit-law : (number seed : ℕ) → CredOpens (kind_of number) → FitLaw number (drill_setup (kind_of number) (moment_of number) (octets_from 66 seed))

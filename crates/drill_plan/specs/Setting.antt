@@ -1,5 +1,5 @@
 -- What both ends of a drill begin with.
-use Rattle.std.specs.Prelude.{ℕ, List, [], ◌∷◌, codes, replicate, None}
+use Rattle.std.specs.Prelude.{ℕ, true, false, List, [], ◌∷◌, codes, replicate, None}
 use Rattle.std.specs.declared.dyn_box.DynBox.{DynBox}
 use Rattle.std.specs.declared.alloc.Global.{Global}
 use Rattle.gss_base.specs.Name.{Name}
@@ -71,6 +71,7 @@ drill_acceptor = record {
   verifiers = drill_verifiers;
   bindings = None;
   offer = drill_offer;
+  bare = false;
 }
 
 -- the octets of the ticket's session key, which are the first 16, and of its confounder, which are
@@ -95,6 +96,7 @@ drill_setup kind stamp draws = record {
   bindings = None;
   stamp = stamp;
   draws = draws;
+  negotiates = true;
 }
 
 -- what the client begins a session with; its first call has the number 1

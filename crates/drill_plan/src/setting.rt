@@ -178,6 +178,7 @@ pub fn acceptor(alloc: Global) -> Result<AcceptSetup, NoMemory>
         verifiers: users,
         bindings: None,
         offer: mechanisms,
+        bare: false,
     })
 }
 
@@ -294,6 +295,7 @@ pub fn facts_of(
         bindings: None,
         stamp,
         draws,
+        negotiates: true,
     })
 }
 
@@ -330,7 +332,7 @@ pub fn start_of(
     ensures list { IfOk result
         (λ start. is_own_list (started_by meaning start).setup.list ≡ true) }
     ensures terms { IfOk result (λ start. start.terms ≡ terms_of number) }
-    ensures stamp { IfOk result (λ start. start.setup.ask.stamp ≡ stamp) }
+    ensures stamp { IfOk result (λ start. (started_by meaning start).setup.ask.stamp ≡ stamp) }
     ensures first { IfOk result (λ start. start.first ≡ 1) }
 {
     let list = armed_one(alloc, kind_of(number), mech)?;
@@ -342,7 +344,7 @@ pub fn start_of(
         bindings: None,
     };
     Ok(Start {
-        setup: InitSetup { list, ask },
+        setup: InitSetup::Negotiating(list, ask),
         terms: terms_of(number),
         first: 1,
     })

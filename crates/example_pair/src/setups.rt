@@ -1,7 +1,7 @@
 //! What both ends begin with.
 
-ghost use Rattle.std.specs.Prelude.{◌≡◌, IfSome, true};
-ghost use Rattle.spnego_core.specs.InitMech.{is_own_list};
+ghost use Rattle.std.specs.Prelude.{◌≡◌, IfSome, true, false};
+ghost use Rattle.spnego_core.specs.InitMech.{is_own_list, is_bare_list};
 
 use gss_base::{Bindings, MechKind, Principal};
 use krb_files::read_keytab;
@@ -48,7 +48,9 @@ fn login(alloc: Global) -> Option<MechCred> {
 
 /// The initiator's facts: one credential, of SCRAM.
 pub fn initiator(alloc: Global) -> Option<InitFacts>
-    ensures { IfSome result (λ facts. is_own_list facts.list ≡ true) }
+    ensures list { IfSome result (λ facts. is_own_list facts.list ≡ true) }
+    ensures bare { IfSome result
+        (λ facts. facts.negotiates ≡ false → is_bare_list facts.list ≡ true) }
 {
     let mut list = Vec::with_capacity(alloc, 1).ok()?;
     let (login, bindings) = login(alloc).zip(bindings(alloc))?;
@@ -58,6 +60,7 @@ pub fn initiator(alloc: Global) -> Option<InitFacts>
         bindings: Some(bindings),
         stamp: Moment::start(),
         draws: OPEN_DRAWS,
+        negotiates: true,
     })
 }
 
@@ -85,5 +88,6 @@ pub fn acceptor(alloc: Global) -> Option<AcceptSetup> {
         verifiers,
         bindings: Some(bindings),
         offer,
+        bare: false,
     })
 }

@@ -25,7 +25,7 @@ use Rattle.ap_exchange.specs.Reply.{reply_taken, reply_found}
 use Rattle.spnego_core.specs.Choice.{is_first}
 use Rattle.spnego_core.specs.ListMic.{is_list_mic, mic_found}
 use Rattle.spnego_core.specs.Steps.{◌>>=◌, due, or_refuse}
-use Rattle.spnego_core.specs.Tokens.{resp_read, last_read, says_completed, rejects}
+use Rattle.spnego_core.specs.Tokens.{first_read, resp_read, last_read, says_completed, rejects}
 use Rattle.spnego_core.specs.Initiating.{Initiated, step_of, behind, ended, told, looks, is_mic_owed, completes_now, completes_later, own_list, own_kind, is_chosen, ran, run, switched, begins_other, switches, talk_with, picks, opened, talk_after, talked, settles, looks_again, closed, init_step}
 use Rattle.gss_client.specs.Rank.{taken_by, replies_left, IsNearer}
 
@@ -130,7 +130,7 @@ unfolding closed
 nears-closed signed resp = after 1 (due Rejected (not (rejects resp.state))) _ (λ goes. after 1 (due MechNotMine (is_chosen signed.talk.chosen resp.mech)) _ (λ same. nears-again signed resp.state resp.mic))
 
 nears : (end : EndSays) (token : List ℕ) → Nears (replies_left end) (init_step end token)
-nears (ends.Opens opening) token = after 4 (resp_read token) _ (λ resp. nears-opened _ opening resp)
+nears (ends.Opens opening) token = after 4 (first_read opening.own.negotiates (own_list opening.own) token) _ (λ resp. nears-opened _ opening resp)
 nears (ends.Talks talking) token = after (taken_by talking.mech + 1) (resp_read token) _ (λ resp. nears-talked _ talking resp)
 nears (ends.Signed signed) token = after 1 (last_read token) _ (λ resp. nears-closed signed resp)
 

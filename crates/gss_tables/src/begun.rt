@@ -1,8 +1,8 @@
-//! What a world of the tables is begun with: an acceptor that offers both mechanisms, an initiator whose list a row says, and a user by
-//! another password.
+//! What a world of the tables is begun with: an acceptor whose offer a row may say, an initiator whose list it says, and a user by another
+//! password.
 
-ghost use Rattle.std.specs.Prelude.{◌≡◌, ◌∷◌, [], true, map, replicate, IfOk, IfSome, None};
-ghost use Rattle.spnego_core.specs.InitMech.{is_own_list};
+ghost use Rattle.std.specs.Prelude.{◌≡◌, ◌∷◌, [], true, false, map, replicate, IfOk, IfSome, None};
+ghost use Rattle.spnego_core.specs.InitMech.{is_own_list, is_bare_list};
 ghost use Rattle.spnego_core.specs.Ends.{setup_of};
 ghost use Rattle.init_ends.specs.Arming.{AreStandard};
 ghost use Rattle.init_ends.specs.Ends.{setup_means, setup_by};
@@ -76,39 +76,53 @@ pub struct Begun {
     pub facts: InitFacts,
 }
 
-/// What an initiator with this list has at this moment, whose random octets are all this one.
-fn facts_of(list: Items<MechCred>, stamp: Moment, draw: u8) -> InitFacts
+/// The mechanisms of an initiator, and whether it negotiates one of them.
+#[derive(Drop)]
+pub struct Wishes {
+    pub list: Items<MechCred>,
+    pub negotiates: bool,
+}
+
+/// What an initiator with these mechanisms has at this moment, whose random octets are all this one.
+fn facts_of(wishes: Wishes, stamp: Moment, draw: u8) -> InitFacts
     ensures { result ≡ record {
-      list = list;
+      list = wishes.list;
       bindings = None;
       stamp = stamp;
       draws = replicate 66 draw;
+      negotiates = wishes.negotiates;
     } }
 {
     InitFacts {
-        list,
+        list: wishes.list,
         bindings: None,
         stamp,
         draws: [draw; 66],
+        negotiates: wishes.negotiates,
     }
 }
 
-/// An initiator with this list at this moment, whose random octets are all this one. `mechs` has one blank object of Kerberos and one of SCRAM.
+/// An initiator with these mechanisms at this moment, whose random octets are all this one. `mechs` has one blank object of Kerberos and one of SCRAM.
 pub fn begin(
     alloc: Global,
     mechs: Vec<Box<dyn Mech>>,
-    list: Items<MechCred>,
+    wishes: Wishes,
     stamp: Moment,
     draw: u8,
 ) -> Result<Begun, NoMemory>
     requires blank { AreStandard (map meaning mechs.items) }
-    requires list { is_own_list list ≡ true }
+    requires list { is_own_list wishes.list ≡ true }
+    requires bare { wishes.negotiates ≡ false → is_bare_list wishes.list ≡ true }
     ensures same { IfOk result
         (λ begun. setup_means meaning begun.own ≡ objects_of (setup_of begun.facts)) }
     ensures own { IfOk result (λ begun. is_own_list begun.facts.list ≡ true) }
 {
-    let copy = copies(alloc, list.as_slice())?;
-    let own = InitSetup::armed(alloc, mechs, facts_of(list, stamp, draw))?;
+    let list = copies(alloc, wishes.list.as_slice())?;
+    let copy = Wishes {
+        list,
+        negotiates: wishes.negotiates,
+    };
+    let own = InitSetup::armed(alloc, mechs, facts_of(wishes, stamp, draw))?;
     let facts = facts_of(copy, stamp, draw);
     Ok(Begun { own, facts })
 }
@@ -241,20 +255,24 @@ fn other(alloc: Global, mechs: Vec<Box<dyn Mech>>, start: Moment) -> Result<Begu
     ensures own { IfOk result (λ begun. is_own_list begun.facts.list ≡ true) }
 {
     let login = login(alloc, "other", "q")?;
-    let list = one(alloc, login)?;
-    begin(alloc, mechs, list, start, 9)
+    let wishes = Wishes {
+        list: one(alloc, login)?,
+        negotiates: true,
+    };
+    begin(alloc, mechs, wishes, start, 9)
 }
 
-/// An initiator with this list, and that of another user. Each of both lists of objects has one blank one of Kerberos and one of SCRAM.
+/// An initiator with these mechanisms, and that of another user. Each of both lists of objects has one blank one of Kerberos and one of SCRAM.
 pub fn begin_both(
     alloc: Global,
     mechs: (Vec<Box<dyn Mech>>, Vec<Box<dyn Mech>>),
-    list: Items<MechCred>,
+    wishes: Wishes,
     start: Moment,
 ) -> Option<(Begun, Begun)>
     requires first { AreStandard (map meaning mechs.0.items) }
     requires second { AreStandard (map meaning mechs.1.items) }
-    requires list { is_own_list list ≡ true }
+    requires list { is_own_list wishes.list ≡ true }
+    requires bare { wishes.negotiates ≡ false → is_bare_list wishes.list ≡ true }
     ensures first_same { IfSome result
         (λ both. setup_means meaning both.0.own ≡ objects_of (setup_of both.0.facts)) }
     ensures first_own { IfSome result (λ both. is_own_list both.0.facts.list ≡ true) }
@@ -263,7 +281,7 @@ pub fn begin_both(
     ensures second_own { IfSome result (λ both. is_own_list both.1.facts.list ≡ true) }
 {
     match (
-        begin(alloc, mechs.0, list, start, 7),
+        begin(alloc, mechs.0, wishes, start, 7),
         other(alloc, mechs.1, start),
     ) {
         (Ok(first), Ok(second)) => Some((first, second)),
@@ -291,30 +309,42 @@ pub fn begun_by(
     }
 }
 
-/// The list of the setting's initiator with these letters.
-pub fn list_of(alloc: Global, setting: &Setting, letters: &str) -> Option<Items<MechCred>>
-    ensures { IfSome result (λ list. is_own_list list ≡ true) }
+/// The mechanisms of the setting's initiator with these letters.
+pub fn wishes_of(alloc: Global, setting: &Setting, letters: &str) -> Option<Wishes>
+    ensures list { IfSome result (λ wishes. is_own_list wishes.list ≡ true) }
+    ensures bare { IfSome result
+        (λ wishes. wishes.negotiates ≡ false → is_bare_list wishes.list ≡ true) }
 {
     match setting.initiator(alloc, letters) {
-        Some(own) => Some(own.list),
+        Some(own) => Some(Wishes {
+            list: own.list,
+            negotiates: own.negotiates,
+        }),
         None => None,
     }
 }
 
-/// What a world is begun with beside its objects: the list of initiator 0, an acceptor, and the moment.
+/// What a world is begun with beside its objects: the mechanisms of initiator 0, an acceptor, and the moment.
 #[derive(Drop)]
 pub struct Given {
-    pub list: Items<MechCred>,
+    pub wishes: Wishes,
     pub setup: AcceptSetup,
     pub start: Moment,
 }
 
-/// The same at 1,000,000 seconds, by the letters of the list; the acceptor offers both mechanisms.
+/// The same at 1,000,000 seconds, by the letters of the list, and those of the acceptor's offer after a `/`; without them it offers both mechanisms.
 pub fn given_by(alloc: Global, setting: &Setting, letters: &str) -> Option<Given>
-    ensures { IfSome result (λ given. is_own_list given.list ≡ true) }
+    ensures list { IfSome result (λ given. is_own_list given.wishes.list ≡ true) }
+    ensures bare { IfSome result
+        (λ given. given.wishes.negotiates ≡ false → is_bare_list given.wishes.list ≡ true) }
 {
     let start = Moment::new(1_000_000, 0)?;
-    let list = list_of(alloc, setting, letters);
-    let (list, setup) = list.zip(setting.acceptor(alloc, "ks"))?;
-    Some(Given { list, setup, start })
+    let (listed, offer) = letters.split_once('/').unwrap_or((letters, "ks"));
+    let wishes = wishes_of(alloc, setting, listed);
+    let (wishes, setup) = wishes.zip(setting.acceptor(alloc, offer))?;
+    Some(Given {
+        wishes,
+        setup,
+        start,
+    })
 }

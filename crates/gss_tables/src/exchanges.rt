@@ -1,7 +1,7 @@
 //! Exchanges of one initiator that are carried as they are.
 
-ghost use Rattle.std.specs.Prelude.{◌≡◌, [], true, map};
-ghost use Rattle.spnego_core.specs.InitMech.{is_own_list};
+ghost use Rattle.std.specs.Prelude.{◌≡◌, [], true, false, map};
+ghost use Rattle.spnego_core.specs.InitMech.{is_own_list, is_bare_list};
 ghost use Rattle.spnego_core.specs.Ends.{setup_of};
 ghost use Rattle.init_ends.specs.Arming.{AreStandard};
 ghost use Rattle.init_ends.specs.Ends.{setup_by};
@@ -9,12 +9,12 @@ ghost use Rattle.init_ends.specs.Plain.{objects_of};
 ghost use Rattle.world_runs.specs.Worlds.{world_means, IsWorld};
 ghost use Rattle.mech_objects.specs.Made.{AreMade};
 
-use crate::begun::{Begun, begin, book, list_of, world_alone};
+use crate::begun::{Begun, Wishes, begin, book, wishes_of, world_alone};
 use accept_book::OwnSeat;
 use init_ends::standard_mechs;
 use mech_objects::{MadeMechs, Mech, make_mechs};
-use sec_base::{Items, Moment, NoMemory, Octets};
-use spnego_core::{AcceptSetup, MechCred};
+use sec_base::{Moment, NoMemory, Octets};
+use spnego_core::AcceptSetup;
 use std::alloc::Global;
 use table_rows::{Cells, Said};
 use table_setting::Setting;
@@ -100,15 +100,16 @@ fn carry_by(
 fn carry_between(
     alloc: Global,
     mechs: Vec<Box<dyn Mech>>,
-    given: (Items<MechCred>, AcceptSetup),
+    given: (Wishes, AcceptSetup),
     count: u64,
 ) -> Option<Carried>
     requires blank { AreStandard (map meaning mechs.items) }
-    requires list { is_own_list given.0 ≡ true }
+    requires list { is_own_list given.0.list ≡ true }
+    requires bare { given.0.negotiates ≡ false → is_bare_list given.0.list ≡ true }
 {
     let now = Moment::new(1_000_000, 0).unwrap_or(Moment::start());
-    let (list, setup) = given;
-    match begin(alloc, mechs, list, now, 7) {
+    let (wishes, setup) = given;
+    match begin(alloc, mechs, wishes, now, 7) {
         Ok(begun) => carry_by(alloc, setup, begun, count, now).ok(),
         Err(_) => {
             drop(setup);
@@ -121,11 +122,12 @@ fn carry_between(
 fn carry_by_all(
     alloc: Global,
     made: MadeMechs,
-    given: (Items<MechCred>, AcceptSetup),
+    given: (Wishes, AcceptSetup),
     count: u64,
 ) -> Option<Carried>
     requires made { AreMade made }
-    requires list { is_own_list given.0 ≡ true }
+    requires list { is_own_list given.0.list ≡ true }
+    requires bare { given.0.negotiates ≡ false → is_bare_list given.0.list ≡ true }
 {
     let MadeMechs {
         kerberos,
@@ -145,8 +147,8 @@ fn carry_with(
     offer: &str,
     count: u64,
 ) -> Option<Carried> {
-    let list = list_of(alloc, setting, letters);
-    let given = list.zip(setting.acceptor(alloc, offer));
+    let wishes = wishes_of(alloc, setting, letters);
+    let given = wishes.zip(setting.acceptor(alloc, offer));
     let (made, given) = make_mechs(alloc).zip(given)?;
     carry_by_all(alloc, made, given, count)
 }

@@ -307,6 +307,7 @@ fn pair(alloc: Global, setup: InitSetup, link: BookLink, said: &mut Said)
 fn pair_by(alloc: Global, mechs: Vec<Box<dyn Mech>>, given: (InitFacts, BookLink), said: &mut Said)
     requires blank { AreStandard (map meaning mechs.items) }
     requires list { plain_lists.is_own_list given.0.list ≡ true }
+    requires bare { given.0.negotiates ≡ false → plain_lists.is_bare_list given.0.list ≡ true }
     requires unclosed { ⟦<BookLink as Link>⟧.closed given.1 ≡ false }
 {
     let (facts, link) = given;
@@ -323,6 +324,7 @@ fn pair_by(alloc: Global, mechs: Vec<Box<dyn Mech>>, given: (InitFacts, BookLink
 fn pair_by_all(alloc: Global, made: MadeMechs, given: (InitFacts, BookLink), said: &mut Said)
     requires made { AreMade made }
     requires list { plain_lists.is_own_list given.0.list ≡ true }
+    requires bare { given.0.negotiates ≡ false → plain_lists.is_bare_list given.0.list ≡ true }
     requires unclosed { ⟦<BookLink as Link>⟧.closed given.1 ≡ false }
 {
     let MadeMechs {
@@ -339,7 +341,8 @@ fn pair_by_all(alloc: Global, made: MadeMechs, given: (InitFacts, BookLink), sai
 
 /// Says what comes of a session over a book of this offer's letters.
 fn pair_over(setting: &Setting, alloc: Global, facts: InitFacts, offer: &str, said: &mut Said)
-    requires { plain_lists.is_own_list facts.list ≡ true }
+    requires list { plain_lists.is_own_list facts.list ≡ true }
+    requires bare { facts.negotiates ≡ false → plain_lists.is_bare_list facts.list ≡ true }
 {
     match make_mechs(alloc).zip(loop_of(alloc, setting, offer, Vec::new(alloc))) {
         Some((made, link)) => pair_by_all(alloc, made, (facts, link), said),

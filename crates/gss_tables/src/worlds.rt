@@ -1,7 +1,7 @@
 //! What happens in a world, one event after the other.
 
-ghost use Rattle.std.specs.Prelude.{◌≡◌, ◌≤◌, true, length, map};
-ghost use Rattle.spnego_core.specs.InitMech.{is_own_list};
+ghost use Rattle.std.specs.Prelude.{◌≡◌, ◌≤◌, true, false, length, map};
+ghost use Rattle.spnego_core.specs.InitMech.{is_own_list, is_bare_list};
 ghost use Rattle.spnego_core.specs.Ends.{setup_of};
 ghost use Rattle.init_ends.specs.Arming.{AreStandard};
 ghost use Rattle.init_ends.specs.Ends.{setup_by};
@@ -369,10 +369,19 @@ fn go_over(
 )
     requires first { AreStandard (map meaning mechs.0.items) }
     requires second { AreStandard (map meaning mechs.1.items) }
-    requires list { is_own_list given.0.list ≡ true }
+    requires list { is_own_list given.0.wishes.list ≡ true }
+    requires bare { given.0.wishes.negotiates ≡ false
+        → is_bare_list given.0.wishes.list ≡ true }
 {
-    let (Given { list, setup, start }, own) = given;
-    match begin_both(cells.alloc(), mechs, list, start) {
+    let (
+        Given {
+            wishes,
+            setup,
+            start,
+        },
+        own,
+    ) = given;
+    match begin_both(cells.alloc(), mechs, wishes, start) {
         Some(both) => go_between(names, cells, said, both, (setup, start), own),
         None => {
             drop((setup, own));
@@ -391,7 +400,9 @@ fn go_by_all(
 )
     requires first { AreMade made.0 }
     requires second { AreMade made.1 }
-    requires list { is_own_list given.0.list ≡ true }
+    requires list { is_own_list given.0.wishes.list ≡ true }
+    requires bare { given.0.wishes.negotiates ≡ false
+        → is_bare_list given.0.wishes.list ≡ true }
 {
     let alloc = cells.alloc();
     let (one, two) = made;
@@ -405,7 +416,9 @@ fn go_by_all(
 
 /// The same with the objects made.
 fn go_with(names: &str, cells: &mut Cells<'_>, said: &mut Said, given: (Given, Octets))
-    requires { is_own_list given.0.list ≡ true }
+    requires list { is_own_list given.0.wishes.list ≡ true }
+    requires bare { given.0.wishes.negotiates ≡ false
+        → is_bare_list given.0.wishes.list ≡ true }
 {
     let alloc = cells.alloc();
     match make_mechs(alloc).zip(make_mechs(alloc)).zip(Some(given)) {
@@ -414,7 +427,7 @@ fn go_with(names: &str, cells: &mut Cells<'_>, said: &mut Said, given: (Given, O
     }
 }
 
-/// Says `step=answer` for each step of a row, which begins with the letters of initiator 0's list and a record of the network's own.
+/// Says `step=answer` for each step of a row, which begins with the letters of initiator 0's list, maybe with those of the offer, and a record of the network's own.
 pub fn answer(setting: &Setting, names: &str, cells: &mut Cells<'_>, said: &mut Said) {
     let letters = cells.word();
     let own = Octets::from_vec(octets_by_name(cells, names));

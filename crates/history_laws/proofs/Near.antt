@@ -1,5 +1,5 @@
 -- A step that asks for a mark has one that lies at most 300 seconds from its moment.
-use Rattle.std.proofs.Common.{◌≡◌, ◌⊎◌, ◌∙◌, ℕ, ◌+◌, ◌-◌, ◌<◌, ◌≤◌, max, Bool, true, false, refl, sym, subst, arith, inl, inr, List, map, length, Option, Some, None, Result, Ok, Err}
+use Rattle.std.proofs.Common.{◌≡◌, ◌⊎◌, ◌∙◌, ℕ, ◌+◌, ◌-◌, ◌<◌, ◌≤◌, max, Bool, true, false, refl, sym, subst, arith, inl, inr, List, [], ◌∷◌, map, length, Option, Some, None, Result, Ok, Err}
 use Rattle.std.specs.Prelude.{not, nat_lt, nat_le}
 use Rattle.std.proofs.lemmas.Bool.{and_parts, leb-true, ltb-true, or_cases}
 use Rattle.gss_base.specs.declared.mark.Mark.{Mark}
@@ -23,17 +23,18 @@ use Rattle.spnego_msgs.specs.declared.neg_resp.NegResp.{NegResp}
 use Rattle.spnego_core.specs.Steps.{◌>>=◌, due, or_refuse}
 use Rattle.spnego_core.specs.Tokens.{init_read, resp_read, rejects}
 use Rattle.spnego_core.specs.ListMic.{is_list_mic}
+use Rattle.spnego_core.specs.Bare.{bare_oid}
 use Rattle.spnego_core.specs.Choice.{best, is_first_named}
 use Rattle.spnego_core.specs.AcceptMech.{request_taken, text_taken, proof_taken, accept_taken}
 use Rattle.spnego_core.specs.Outcome.{outcome_of}
-use Rattle.spnego_core.specs.Accepting.{Accepted, gone_on, finished, run, begun, token_for, started, chose, begins, proceeds, settled, closes, accept_step}
+use Rattle.spnego_core.specs.Accepting.{Accepted, gone_on, finished, run, begun, token_for, started, chose, begins, first_taken, proceeds, settled, closes, accept_step}
 use Rattle.spnego_core.specs.declared.refusal.NegRefusal.{NegRefusal}
 use Rattle.spnego_core.specs.declared.refusal.NegRefusal.TheVariants.{Defective, Rejected, NoCommonMech, MicMissing, MicBad}
 use Rattle.spnego_core.specs.declared.setup.AcceptSetup.{AcceptSetup}
 use Rattle.spnego_core.specs.declared.accept_mech.AcceptMech.{AcceptMech}
 use Rattle.spnego_core.specs.declared.accept_mech.AcceptMech.TheVariants as mechs
 use Rattle.spnego_core.specs.declared.accept_end.Turn.{Turn}
-use Rattle.spnego_core.specs.declared.accept_end.Turn.TheVariants.{First, Later}
+use Rattle.spnego_core.specs.declared.accept_end.Turn.TheVariants.{First, Later, Bare}
 use Rattle.spnego_core.specs.declared.accept_end.Chosen.{Chosen}
 use Rattle.spnego_core.specs.declared.accept_end.Running.{Running}
 use Rattle.spnego_core.specs.declared.accept_end.Owing.{Owing}
@@ -141,13 +142,17 @@ near-closes : (now : ℕ) (owing : Owing) (resp : NegResp) → Near now (closes 
 unfolding closes
 near-closes now owing resp =
     near-due now Rejected (not (rejects resp.state))
-    (or_refuse MicMissing resp.mic >>= (λ mic. due MicBad (is_list_mic owing.outcome Acceptor owing.received mic) >>= (λ right. Ok (settled owing mic))))
+    (or_refuse MicMissing resp.mic >>= (λ mic. due MicBad (is_list_mic owing.outcome Acceptor owing.received mic) >>= (λ right. Ok (settled owing resp.state mic))))
     (near-bind {A = List ℕ} now (or_refuse MicMissing resp.mic)
-    (λ mic. due MicBad (is_list_mic owing.outcome Acceptor owing.received mic) >>= (λ right. Ok (settled owing mic)))
-    (λ mic. near-due now MicBad (is_list_mic owing.outcome Acceptor owing.received mic) (Ok (settled owing mic)) (λ mark e. absurd (none-marked mark e))))
+    (λ mic. due MicBad (is_list_mic owing.outcome Acceptor owing.received mic) >>= (λ right. Ok (settled owing resp.state mic)))
+    (λ mic. near-due now MicBad (is_list_mic owing.outcome Acceptor owing.received mic) (Ok (settled owing resp.state mic)) (λ mark e. absurd (none-marked mark e))))
+
+near-first : (setup : AcceptSetup) (now : ℕ) (draws token : List ℕ) (bare : Option (List ℕ)) → Near now (first_taken setup now draws token bare)
+near-first setup now draws token None = near-bind {A = NegInit} now (init_read token) (begins setup now draws) (λ init. near-begins setup now draws init)
+near-first setup now draws token (Some oid) = near-mech setup now draws Bare (begun setup (oid ∷ []) kinds.Kerberos).chosen mechs.Kerberos token
 
 near-step : (setup : AcceptSetup) (end : AcceptEnd) (token : List ℕ) (now : ℕ) (draws : List ℕ) → Near now (accept_step setup end token now draws)
-near-step setup ends.New token now draws = near-bind {A = NegInit} now (init_read token) (begins setup now draws) (λ init. near-begins setup now draws init)
+near-step setup ends.New token now draws = near-first setup now draws token (bare_oid setup token)
 near-step setup (ends.Runs running) token now draws =
     near-bind {A = NegResp} now (resp_read token) (proceeds setup now draws (length token) running) (λ resp. near-proceeds setup now draws (length token) running resp)
 near-step setup (ends.Owes owing) token now draws = near-bind {A = NegResp} now (resp_read token) (closes owing) (λ resp. near-closes now owing resp)

@@ -1,5 +1,5 @@
 -- Each step of an initiator over any objects keeps its end good.
-use Rattle.std.proofs.Common.{◌≡◌, ℕ, Bool, true, false, not, ◌||◌, if◌then◌else◌, refl, sym, ◌∙◌, subst, inl, inr, List, [], ◌∷◌, length, Option, Some, None, Result, Ok, Err}
+use Rattle.std.proofs.Common.{◌≡◌, ℕ, Bool, true, false, not, ◌||◌, if◌then◌else◌, refl, sym, ap, ◌∙◌, subst, inl, inr, List, [], ◌∷◌, length, Option, Some, None, Result, Ok, Err}
 use Rattle.krb_tokens.specs.declared.end.Side.TheVariants.{Initiator}
 use Rattle.spnego_msgs.specs.declared.neg_state.NegState.{NegState}
 use Rattle.spnego_msgs.specs.declared.neg_resp.NegResp.{NegResp}
@@ -10,7 +10,7 @@ use Rattle.spnego_core.specs.Initiating.{completes_now, completes_later}
 use Rattle.spnego_core.specs.ListMic.{is_list_mic}
 use Rattle.spnego_core.specs.Outcome.{outcome_of}
 use Rattle.spnego_core.specs.Steps.{◌>>=◌, due, or_refuse}
-use Rattle.spnego_core.specs.Tokens.{resp_read, last_read, rejects, says_completed}
+use Rattle.spnego_core.specs.Tokens.{bare_reply, first_read, resp_read, last_read, rejects, says_completed}
 use Rattle.mech_objects.specs.declared.ask.MechAsk.{MechAsk}
 use Rattle.mech_objects.specs.declared.ask.MechMove.{MechMove}
 use Rattle.mech_objects.specs.declared.ask.MechMove.TheVariants as moves
@@ -164,9 +164,17 @@ closed-good own reply replies signed resp h =
 sees-in : (own : List MechSays) (replies : List (List ℕ)) (reply : List ℕ) (resp : NegResp) → resp_read reply ≡ Ok resp → Sees own (reply ∷ replies) resp.mic
 sees-in own replies reply resp read outcome mic there right = inl (record { resp = resp; read = read; mic = mic; there = there; right = right })
 
+-- the same of the first reply: a mechanism's own token has none
+sees-first : (own : List MechSays) (replies : List (List ℕ)) (reply : List ℕ) (negotiates : Bool) (list : List (List ℕ)) (resp : NegResp) → first_read negotiates list reply ≡ Ok resp → Sees own (reply ∷ replies) resp.mic
+sees-first own replies reply true list resp read = sees-in own replies reply resp read
+sees-first own replies reply false list resp read = λ outcome mic there right.
+    let same : bare_reply list reply ≡ resp = cc in
+    absurd (let f : None ≡ Some mic = ap (λ (r : NegResp). r.mic) same ∙ there in cc)
+
 stepped-good : (own : List MechSays) (replies : List (List ℕ)) (end : EndMeans) (reply : List ℕ) → GoodEnd own replies end → OnStep (GoodAfter own (reply ∷ replies)) (end_step end reply)
 stepped-good own replies (Opens opening) reply h =
-    on-read (GoodAfter own (reply ∷ replies)) (resp_read reply) (opened (length reply) opening) (λ resp e. opened-good own (reply ∷ replies) (length reply) opening resp h (sees-in own replies reply resp e))
+    on-read (GoodAfter own (reply ∷ replies)) (first_read opening.negotiates opening.list reply) (opened (length reply) opening)
+    (λ resp e. opened-good own (reply ∷ replies) (length reply) opening resp h (sees-first own replies reply opening.negotiates opening.list resp e))
 stepped-good own replies (Talks talking) reply h =
     on-read (GoodAfter own (reply ∷ replies)) (resp_read reply) (talked (length reply) talking) (λ resp e. talked-good own (reply ∷ replies) (length reply) talking resp h (sees-in own replies reply resp e))
 stepped-good own replies (Signed signed) reply h =

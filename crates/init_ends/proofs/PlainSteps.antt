@@ -27,7 +27,7 @@ use Rattle.spnego_core.specs.InitLaws.{own_of}
 use Rattle.spnego_core.specs.ListMic.{is_list_mic, mic_found}
 use Rattle.spnego_core.specs.Outcome.{outcome_of}
 use Rattle.spnego_core.specs.Steps.{◌>>=◌, due, or_refuse}
-use Rattle.spnego_core.specs.Tokens.{resp_read, last_read, rejects, says_completed}
+use Rattle.spnego_core.specs.Tokens.{first_read, resp_read, last_read, rejects, says_completed}
 use Rattle.mech_objects.specs.declared.ask.MechAsk.{MechAsk}
 use Rattle.mech_objects.specs.declared.ask.MechMove.{MechMove}
 use Rattle.mech_objects.specs.Meaning.{starts, as_end}
@@ -155,6 +155,7 @@ opening_of plain first rest token = record {
   ask = ask_of plain.own;
   mech = waiting_of first (ask_of plain.own) (token ∷ []) [];
   others = map fresh_of rest;
+  negotiates = plain.own.negotiates;
 }
 
 -- what the first reply names by its mechanism
@@ -287,7 +288,7 @@ closed-as plain oid named resp =
 steps-as : (end : EndMeans) (plain : EndSays) (token : List ℕ) → StandsAs end plain → StepsAs (end_step end token) (step_of (init_step plain token))
 steps-as end (plain_ends.Opens plain) token h =
     subst (λ (x : EndMeans). StepsAs (end_step x token) (step_of (init_step (plain_ends.Opens plain) token))) (sym h.end_is)
-    (read-as (resp_read token) (opened (length token) (opening_of plain h.first h.rest h.token)) (plain_opened (length token) plain) (λ resp. opened-as (length token) plain h.first h.rest h.token resp h.own_is h.state))
+    (read-as (first_read plain.own.negotiates (own_list plain.own) token) (opened (length token) (opening_of plain h.first h.rest h.token)) (plain_opened (length token) plain) (λ resp. opened-as (length token) plain h.first h.rest h.token resp h.own_is h.state))
 steps-as end (plain_ends.Talks plain) token h =
     subst (λ (x : EndMeans). StepsAs (end_step x token) (step_of (init_step (plain_ends.Talks plain) token))) (sym h.end_is)
     (read-as (resp_read token) _ (plain_talked (length token) plain) (λ resp. talked-as (length token) plain h.oid h.oid_is h.cred h.sent h.taken resp h.chosen h.state))

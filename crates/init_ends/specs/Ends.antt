@@ -1,6 +1,6 @@
 -- What an initiator over objects is begun with, and what its end and its steps are, however the
 -- objects lie in memory: `says` is what an object is.
-use Rattle.std.specs.Prelude.{ℕ, Bool, true, ◌&&◌, List, map}
+use Rattle.std.specs.Prelude.{ℕ, Bool, true, false, ◌&&◌, List, [], ◌∷◌, map}
 use Rattle.std.specs.declared.dyn_box.DynBox.{DynBox}
 use Rattle.std.specs.declared.alloc.Global.{Global}
 use Rattle.spnego_core.specs.EndSteps.{StepOf, More, Done}
@@ -8,6 +8,7 @@ use Rattle.spnego_core.specs.Sizes.{IsShort}
 use Rattle.mech_objects.specs.declared.ask.MechAsk.{MechAsk}
 use Rattle.mech_objects.specs.Meaning.{MechSays}
 use Rattle.init_ends.specs.declared.ends.InitSetup.{InitSetup}
+use Rattle.init_ends.specs.declared.ends.InitSetup.TheVariants as setups
 use Rattle.init_ends.specs.declared.ends.Opening.{Opening}
 use Rattle.init_ends.specs.declared.ends.Talk.{Talk}
 use Rattle.init_ends.specs.declared.ends.Talking.{Talking}
@@ -18,19 +19,21 @@ use Rattle.init_ends.specs.declared.ends.InitStep.{InitStep}
 use Rattle.init_ends.specs.declared.ends.InitStep.TheVariants as steps
 use Rattle.init_ends.specs.Objects.{is_waiting, all_fresh}
 
--- what an initiator is begun with: its objects, the preferred first, and what each of them is begun
--- with
+-- what an initiator is begun with: its objects, the preferred first, what each of them is begun
+-- with, and whether it negotiates
 pub record SetupMeans : Type 0 where
   pub list : List MechSays
   pub ask : MechAsk
+  pub negotiates : Bool
 
--- it sent its first token: the list as it was sent, the first object, which waits, and those behind
--- it
+-- it sent its first token: the list, the first object, which waits, those behind it, and whether it
+-- negotiates
 pub record OpeningMeans : Type 0 where
   pub list : List (List ℕ)
   pub ask : MechAsk
   pub mech : MechSays
   pub others : List MechSays
+  pub negotiates : Bool
 
 -- the chosen mechanism isn't done
 pub record TalkingMeans : Type 0 where
@@ -55,7 +58,10 @@ StepMeans = StepOf EndMeans
 -- what the code's setup is
 abbrev pub setup_means : {X : Type 0} → {D : X → Type 0} → (DynBox X Global D → MechSays)
     → InitSetup X D → SetupMeans
-setup_means says setup = record { list = map says setup.list.items; ask = setup.ask }
+setup_means says (setups.Negotiating list ask) =
+    record { list = map says list.items; ask = ask; negotiates = true }
+setup_means says (setups.Bare mech ask) =
+    record { list = says mech ∷ []; ask = ask; negotiates = false }
 
 -- what the code's end is that sent its first token
 abbrev pub opening_means : {X : Type 0} → {D : X → Type 0} → (DynBox X Global D → MechSays)
@@ -65,6 +71,7 @@ opening_means says opening = record {
   ask = opening.ask;
   mech = says opening.mech;
   others = map says opening.others.items;
+  negotiates = opening.negotiates;
 }
 
 -- what the code's end is whose mechanism isn't done

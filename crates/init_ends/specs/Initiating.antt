@@ -14,8 +14,8 @@ use Rattle.spnego_core.specs.declared.refusal.NegRefusal.TheVariants.{MicBad}
 use Rattle.spnego_core.specs.EndSteps.{More, Done}
 use Rattle.spnego_core.specs.Steps.{◌>>=◌, due, or_refuse}
 use Rattle.spnego_core.specs.Outcome.{outcome_of}
-use Rattle.spnego_core.specs.Tokens.{init_octets, resp_read, last_read, resp_octets, rejects}
-use Rattle.spnego_core.specs.Tokens.{says_completed, asks_mic}
+use Rattle.spnego_core.specs.Tokens.{first_octets, first_read, resp_read, last_read, resp_octets}
+use Rattle.spnego_core.specs.Tokens.{rejects, says_completed, asks_mic}
 use Rattle.spnego_core.specs.ListMic.{list_mic, is_list_mic}
 use Rattle.spnego_core.specs.Initiating.{token_sent, mic_sent, completes_now, completes_later}
 use Rattle.mech_objects.specs.declared.ask.MechAsk.{MechAsk}
@@ -34,7 +34,8 @@ use Rattle.init_ends.specs.Ends.{Signed, StepMeans}
 abbrev pub first_sent : List (List ℕ) → List ℕ → NegInit
 first_sent list token = record { list = list; flags = None; token = Some token; mic = None }
 
--- the first token by how the first object starts; its refusal is the end's
+-- the first token by how the first object starts, the object's own where nothing is negotiated; its
+-- refusal is the end's
 abbrev pub opens : SetupMeans → MechSays → List MechSays → Result (List ℕ) NegRefusal
     → Result (EndMeans × List ℕ) NegRefusal
 opens own first rest (Err refusal) = Err refusal
@@ -44,8 +45,9 @@ opens own first rest (Ok token) = Ok (
     ask = own.ask;
     mech = started first own.ask (Ok token);
     others = rest;
+    negotiates = own.negotiates;
   }),
-  init_octets (first_sent (oids_of own.list) token),
+  first_octets own.negotiates (first_sent (oids_of own.list) token),
 )
 
 -- the first of the objects starts; by the condition on a setup there is one
@@ -196,6 +198,7 @@ closed signed resp = do
 -- ---- the machine: end, token
 -- what an initiator makes of a token: the first reply, a later one, or the one to its MIC
 abbrev pub end_step : EndMeans → List ℕ → Result StepMeans NegRefusal
-end_step (Opens opening) token = resp_read token >>= opened (length token) opening
+end_step (Opens opening) token =
+    first_read opening.negotiates opening.list token >>= opened (length token) opening
 end_step (Talks talking) token = resp_read token >>= talked (length token) talking
 end_step (Signed signed) token = last_read token >>= closed signed

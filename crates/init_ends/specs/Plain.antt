@@ -43,7 +43,8 @@ waiting_of cred ask sent taken =
 
 -- the setup over the objects of a plain setup's credentials
 abbrev pub objects_of : PlainSetup → SetupMeans
-objects_of own = record { list = map fresh_of own.list; ask = ask_of own }
+objects_of own =
+    record { list = map fresh_of own.list; ask = ask_of own; negotiates = own.negotiates }
 
 -- the talk over objects: the chosen mechanism is named by the identifier by which the acceptor
 -- chose it
@@ -65,6 +66,7 @@ pub record OpensAs (end : EndMeans) (plain : OpeningSays) : Type 0 where
     ask = ask_of plain.own;
     mech = waiting_of first (ask_of plain.own) (token ∷ []) [];
     others = map fresh_of rest;
+    negotiates = plain.own.negotiates;
   })
 
 -- the chosen mechanism isn't done: its object is in the plain end's state

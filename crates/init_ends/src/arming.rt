@@ -1,6 +1,6 @@
 //! Objects that are handed in blank, armed and put in the order of their credentials.
 
-ghost use Rattle.std.specs.Prelude.{◌≡◌, IfOk, map, true};
+ghost use Rattle.std.specs.Prelude.{◌≡◌, [], ◌∷◌, IfOk, length, map, true, false};
 ghost use Rattle.spnego_core.specs.Ends.{setup_of};
 ghost use Rattle.spnego_core.specs.InitMech as plain_lists;
 ghost use Rattle.spnego_core.specs.InitMech.{kind_of, name_of, oid_listed};
@@ -108,9 +108,18 @@ pub fn armed_list(
     Ok(list)
 }
 
+/// The one object of a list.
+fn only(list: Vec<Box<dyn Mech>>) -> Box<dyn Mech>
+    requires { length list.items ≡ 1 }
+    ensures { map meaning list.items ≡ meaning result ∷ [] }
+{
+    let mut list = list;
+    list.remove(0)
+}
+
 impl InitSetup {
     /// The setup over the objects of these facts' credentials, in their order. `mechs` has blank objects in any order, and at least one under
-    /// each name.
+    /// each name. An initiator that doesn't negotiate has one credential.
     #[tactic(auto, using(crate::proofs::PlainNames::own_objects))]
     pub fn armed(
         alloc: Global,
@@ -119,6 +128,7 @@ impl InitSetup {
     ) -> Result<InitSetup, NoMemory>
         requires blank { AreStandard (map meaning mechs.items) }
         requires list { plain_lists.is_own_list facts.list ≡ true }
+        requires bare { facts.negotiates ≡ false → plain_lists.is_bare_list facts.list ≡ true }
         ensures objects { IfOk result (λ s. setup_means meaning s ≡ objects_of (setup_of facts)) }
         ensures own { IfOk result (λ s. is_own_list (setup_means meaning s).list ≡ true) }
     {
@@ -127,6 +137,7 @@ impl InitSetup {
             bindings,
             stamp,
             draws,
+            negotiates,
         } = facts;
         let list = armed_list(alloc, mechs, list)?;
         let ask = MechAsk {
@@ -134,6 +145,10 @@ impl InitSetup {
             draws,
             bindings,
         };
-        Ok(InitSetup { list, ask })
+        if negotiates {
+            Ok(InitSetup::Negotiating(list, ask))
+        } else {
+            Ok(InitSetup::Bare(only(list), ask))
+        }
     }
 }

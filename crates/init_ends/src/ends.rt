@@ -4,14 +4,13 @@ use mech_objects::{Mech, MechAsk};
 use sec_base::{Items, Octets, Oid};
 use spnego_core::Outcome;
 
-/// What an initiator is begun with. Each call that takes one asks for one to three objects with different object identifiers, each armed and
-/// fresh; two of them may be of one mechanism, under its two names.
+/// What an initiator is begun with, and what each of its objects is begun with. Each call that takes one asks that each object is armed and fresh.
 #[derive(Drop)]
-pub struct InitSetup {
-    /// The mechanisms, the preferred first.
-    pub list: Vec<Box<dyn Mech>>,
-    /// What each of them is begun with.
-    pub ask: MechAsk,
+pub enum InitSetup {
+    /// It negotiates: one to three mechanisms with different object identifiers, the preferred first. Two of them may be one, under its two names.
+    Negotiating(Vec<Box<dyn Mech>>, MechAsk),
+    /// It doesn't negotiate: one mechanism, whose first token is sent as it stands, and which is done by the reply.
+    Bare(Box<dyn Mech>, MechAsk),
 }
 
 /// The first token was sent.
@@ -24,6 +23,8 @@ pub struct Opening {
     pub(crate) mech: Box<dyn Mech>,
     /// Those behind it.
     pub(crate) others: Vec<Box<dyn Mech>>,
+    /// The list was sent with it.
+    pub(crate) negotiates: bool,
 }
 
 /// What is known once the acceptor chose.

@@ -1,8 +1,8 @@
 //! The initiator's first token, RFC 4178 sections 3.2 and 4.2.1.
 
-ghost use Rattle.std.specs.Prelude.{◌≡◌, IfOk, true, map};
+ghost use Rattle.std.specs.Prelude.{◌≡◌, [], ◌∷◌, IfOk, true, map};
 ghost use Rattle.sec_base.specs.Answers.{Gives};
-ghost use Rattle.spnego_core.specs.Tokens.{init_octets};
+ghost use Rattle.spnego_core.specs.Tokens.{init_octets, first_octets};
 ghost use Rattle.spnego_core.specs.Sizes.{IsShort, FitsBeside};
 ghost use Rattle.mech_objects.specs.Meaning.{starts, started};
 ghost use Rattle.mech_objects.specs.declared.ask.Stage.TheVariants.{Fresh};
@@ -36,7 +36,7 @@ pub fn start_of(
     object.start(alloc, ask)
 }
 
-/// The first token: the own list, which is given back, and the first token of its first mechanism.
+/// The first token of an initiator that negotiates: the own list, which is given back, and the first token of its first mechanism.
 fn first_sent(
     alloc: Global,
     list: Items<Oid>,
@@ -64,9 +64,29 @@ fn first_sent(
     Ok((list, octets))
 }
 
+/// The first token, by whether the initiator negotiates, and the own list.
+fn first_written(
+    alloc: Global,
+    negotiates: bool,
+    list: Items<Oid>,
+    token: Octets,
+) -> Result<(Items<Oid>, Octets), NoMemory>
+    requires { are_few list ≡ true }
+    ensures list { IfOk result (λ p. p.0 ≡ list) }
+    ensures exact { IfOk result (λ p. p.1 ≡ first_octets negotiates (first_sent list token)) }
+    ensures short { FitsBeside token → IfOk result (λ p. IsShort p.1) }
+{
+    if negotiates {
+        first_sent(alloc, list, token)
+    } else {
+        Ok((list, token))
+    }
+}
+
 /// The end behind the first token, which has the token of its first mechanism.
 fn opens(
     alloc: Global,
+    negotiates: bool,
     own: Vec<Oid>,
     token: Octets,
     ask: MechAsk,
@@ -82,19 +102,69 @@ fn opens(
           ask = ask;
           mech = meaning mech;
           others = map meaning others.items;
+          negotiates = negotiates;
         })) }
-    ensures token { IfOk result (λ p. p.1 ≡ init_octets (first_sent own.items token)) }
+    ensures token { IfOk result
+        (λ p. p.1 ≡ first_octets negotiates (first_sent own.items token)) }
     ensures short { FitsBeside token → IfOk result (λ p. IsShort p.1) }
 {
-    match first_sent(alloc, Items::of(own), token) {
+    match first_written(alloc, negotiates, Items::of(own), token) {
         Ok((list, octets)) => {
             let opening = Opening {
                 list,
                 ask,
                 mech,
                 others,
+                negotiates,
             };
             Ok((InitEnd::Opens(opening), octets))
+        }
+        Err(refusal) => {
+            drop(ask);
+            drop(mech);
+            drop(others);
+            Err(refusal)
+        }
+    }
+}
+
+/// The list of one object.
+fn list_of(alloc: Global, mech: Box<dyn Mech>) -> Result<Vec<Box<dyn Mech>>, NoMemory>
+    ensures { IfOk result (λ v. map meaning v.items ≡ meaning mech ∷ []) }
+{
+    let mut list = Vec::new(alloc);
+    list.push(mech)?;
+    Ok(list)
+}
+
+/// The end over these objects, and its first token.
+fn started(
+    alloc: Global,
+    negotiates: bool,
+    list: Vec<Box<dyn Mech>>,
+    ask: MechAsk,
+) -> Result<(InitEnd, Octets), NegRefusal>
+    requires { is_own_list (map meaning list.items) ≡ true }
+    ensures exact { Gives NegRefusal.NoMemory (λ p. (end_means meaning p.0, p.1)) result
+        (end_start (record {
+          list = map meaning list.items;
+          ask = ask;
+          negotiates = negotiates;
+        })) }
+    ensures held { IfOk result (λ p. holds (end_means meaning p.0) ≡ true) }
+    ensures short { IfOk result (λ p. IsShort p.1) }
+{
+    let Ok(own) = own_list(alloc, list.as_slice()) else {
+        drop(list);
+        drop(ask);
+        return Err(NegRefusal::NoMemory);
+    };
+    let mut others = list;
+    let mut mech = others.remove(0);
+    match start_of(alloc, &mut mech, &ask) {
+        Ok(token) => {
+            let begun = opens(alloc, negotiates, own, token, ask, mech, others)?;
+            Ok(begun)
         }
         Err(refusal) => {
             drop(ask);
@@ -108,30 +178,21 @@ fn opens(
 impl InitEnd {
     /// The end and its first token.
     pub fn start(alloc: Global, setup: InitSetup) -> Result<(InitEnd, Octets), NegRefusal>
-        requires { is_own_list (map meaning setup.list.items) ≡ true }
+        requires { is_own_list (setup_means meaning setup).list ≡ true }
         ensures exact { Gives NegRefusal.NoMemory (λ p. (end_means meaning p.0, p.1)) result
             (end_start (setup_means meaning setup)) }
         ensures held { IfOk result (λ p. holds (end_means meaning p.0) ≡ true) }
         ensures short { IfOk result (λ p. IsShort p.1) }
     {
-        let Ok(own) = own_list(alloc, setup.list.as_slice()) else {
-            drop(setup);
-            return Err(NegRefusal::NoMemory);
-        };
-        let InitSetup { list, ask } = setup;
-        let mut others = list;
-        let mut mech = others.remove(0);
-        match start_of(alloc, &mut mech, &ask) {
-            Ok(token) => {
-                let begun = opens(alloc, own, token, ask, mech, others)?;
-                Ok(begun)
-            }
-            Err(refusal) => {
-                drop(ask);
-                drop(mech);
-                drop(others);
-                Err(refusal)
-            }
+        match setup {
+            InitSetup::Negotiating(list, ask) => started(alloc, true, list, ask),
+            InitSetup::Bare(mech, ask) => match list_of(alloc, mech) {
+                Ok(list) => started(alloc, false, list, ask),
+                Err(_) => {
+                    drop(ask);
+                    Err(NegRefusal::NoMemory)
+                }
+            },
         }
     }
 }

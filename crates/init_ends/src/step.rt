@@ -20,7 +20,7 @@ use crate::reply::{looks, looks_again};
 use crate::start::start_of;
 use mech_objects::{Mech, MechAsk, MechMove};
 use sec_base::{NoMemory, Octets, Oid};
-use spnego_core::tokens::{asks_mic, last_read, rejects, resp_read, says_completed};
+use spnego_core::tokens::{asks_mic, first_read, last_read, rejects, resp_read, says_completed};
 use spnego_core::{NegRefusal, outcome_of, token_sent};
 use spnego_msgs::{NegResp, NegState};
 use std::alloc::Global;
@@ -205,6 +205,7 @@ fn picks(
         ask,
         mech,
         others,
+        negotiates: _,
     } = opening;
     let first = is_named(&oid, &oid_at(&mech));
     let talk = Talk {
@@ -328,7 +329,7 @@ fn first_reply(alloc: Global, opening: Opening, token: &[u8]) -> Result<InitStep
     ensures held { IfOk result (λ s. holds_after (step_means meaning s) ≡ true) }
     ensures short { IfOk result (λ s. ShortStep (step_means meaning s)) }
 {
-    match resp_read(alloc, token) {
+    match first_read(alloc, opening.negotiates, opening.list.as_slice(), token) {
         Ok(resp) => {
             let step = opened(alloc, token.len(), opening, &resp);
             drop(resp);

@@ -33,6 +33,7 @@ use Rattle.spnego_core.specs.InitMech.{init_begun, init_taken}
 use Rattle.spnego_core.specs.Accepting as accepting
 use Rattle.spnego_core.specs.Initiating as initiating
 use Rattle.spnego_core.specs.PairLaws.{Pair, pair_outcome, DoneAtOnce, DoneAfterMics}
+use Rattle.spnego_core.proofs.Bares.{init-unbare}
 use Rattle.spnego_core.proofs.Pairs.{init_again, resp_again, acceptors_mic, initiators_mic}
 use Rattle.listed_pairs.specs.NamedPairs.{setup_named, first_token, opening_end, plain_reply, signed_reply}
 
@@ -59,12 +60,14 @@ asks : (setup : AcceptSetup) (now : ℕ) (drawn : List ℕ) (name : KerberosName
 unfolding accepting.begins accept_taken
 asks setup now drawn Standard credential others stamp draws bindings pair fits =
     rw (
+      init-unbare setup (initiating.first_sent (setup_named Standard credential others stamp draws bindings) (request_token credential stamp draws bindings)) fits,
       init_again (initiating.first_sent (setup_named Standard credential others stamp draws bindings) (request_token credential stamp draws bindings)) fits,
       pair.offers,
       honest_request setup.keytab setup.own now setup.bindings credential stamp draws bindings pair.draws_long pair.requests pair.fit,
     ) refl
 asks setup now drawn Microsoft credential others stamp draws bindings pair fits =
     rw (
+      init-unbare setup (initiating.first_sent (setup_named Microsoft credential others stamp draws bindings) (request_token credential stamp draws bindings)) fits,
       init_again (initiating.first_sent (setup_named Microsoft credential others stamp draws bindings) (request_token credential stamp draws bindings)) fits,
       pair.offers,
       honest_request setup.keytab setup.own now setup.bindings credential stamp draws bindings pair.draws_long pair.requests pair.fit,

@@ -37,6 +37,7 @@ setup_named name credential others stamp draws bindings = record {
   bindings = bindings;
   stamp = stamp;
   draws = draws;
+  negotiates = true;
 }
 
 -- the octets that it begins with

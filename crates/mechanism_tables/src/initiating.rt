@@ -1,7 +1,7 @@
 //! An initiator's end over the objects of Kerberos and SCRAM, and the replies to it.
 
-ghost use Rattle.std.specs.Prelude.{◌≡◌, IfSome, map, true};
-ghost use Rattle.spnego_core.specs.InitMech.{is_own_list};
+ghost use Rattle.std.specs.Prelude.{◌≡◌, IfSome, map, true, false};
+ghost use Rattle.spnego_core.specs.InitMech.{is_own_list, is_bare_list};
 ghost use Rattle.init_ends.specs.Arming.{AreStandard};
 ghost use Rattle.init_ends.specs.Ends.{end_by, holds, holds_after, setup_by, step_by};
 ghost use Rattle.init_ends.specs.Objects as own_objects;
@@ -103,6 +103,7 @@ fn talk_from(cells: &mut Cells<'_>, said: &mut Said, setup: InitSetup)
 fn talk_over(cells: &mut Cells<'_>, said: &mut Said, mechs: Vec<Box<dyn Mech>>, facts: InitFacts)
     requires blank { AreStandard (map meaning mechs.items) }
     requires list { is_own_list facts.list ≡ true }
+    requires bare { facts.negotiates ≡ false → is_bare_list facts.list ≡ true }
 {
     match InitSetup::armed(cells.alloc(), mechs, facts) {
         Ok(setup) => talk_from(cells, said, setup),
@@ -114,6 +115,7 @@ fn talk_over(cells: &mut Cells<'_>, said: &mut Said, mechs: Vec<Box<dyn Mech>>, 
 fn talk_by_all(cells: &mut Cells<'_>, said: &mut Said, made: MadeMechs, facts: InitFacts)
     requires made { AreMade made }
     requires list { is_own_list facts.list ≡ true }
+    requires bare { facts.negotiates ≡ false → is_bare_list facts.list ≡ true }
 {
     let MadeMechs {
         kerberos,
@@ -129,7 +131,8 @@ fn talk_by_all(cells: &mut Cells<'_>, said: &mut Said, made: MadeMechs, facts: I
 
 /// Says the first token of an initiator with these facts, and `reply=verdict` for each reply that is left of a row behind the first token.
 pub fn talk(cells: &mut Cells<'_>, said: &mut Said, facts: InitFacts)
-    requires { is_own_list facts.list ≡ true }
+    requires list { is_own_list facts.list ≡ true }
+    requires bare { facts.negotiates ≡ false → is_bare_list facts.list ≡ true }
 {
     match make_mechs(cells.alloc()).zip(Some(facts)) {
         Some((made, facts)) => talk_by_all(cells, said, made, facts),

@@ -136,7 +136,7 @@ fn talk_over(cells: &mut Cells<'_>, said: &mut Said, host: &AcceptSetup, list: V
         draws: own_draws(),
         bindings: None,
     };
-    match InitEnd::start(cells.alloc(), InitSetup { list, ask }) {
+    match InitEnd::start(cells.alloc(), InitSetup::Negotiating(list, ask)) {
         Err(refusal) => saying::refusal(said, refusal),
         Ok((end, token)) => exchange(cells, said, host, (end, AcceptEnd::new(), token)),
     }

@@ -31,9 +31,9 @@ use Rattle.spnego_core.specs.Exchange.{Occasion, TicketFits, UserFits, Fitting, 
 use Rattle.spnego_core.specs.InitMech.{kind_of, kinds_of, is_own_list, cred_for, MechBegun, request_begun, text_begun, init_begun}
 use Rattle.spnego_core.specs.Initiating.{Started, own_list, init_start, starts, opens, first_sent, token_sent}
 use Rattle.spnego_core.specs.Sizes.{IsShort, FitsBeside}
-use Rattle.spnego_core.specs.Tokens.{init_octets, resp_octets}
+use Rattle.spnego_core.specs.Tokens.{first_octets, resp_octets}
 use Rattle.spnego_core.proofs.MechRounds.{request_begins, request-begins, text_begins, text-begins, pairs}
-use Rattle.spnego_core.proofs.ShortInit.{request_fits, first_short, token_short}
+use Rattle.spnego_core.proofs.ShortInit.{request_fits, opening_short, token_short}
 use Rattle.spnego_core.proofs.ShortTexts.{nonce_length, started_short}
 use Rattle.pair_laws.specs.Meeting.{CredMeets, drawn_on, MeetLaw, AnswerTold, TicketTold, UserTold, CredTold, IsDrawn, SetupTold}
 
@@ -159,8 +159,8 @@ begun-fits own draws (creds.Scram user password) begun size told e =
 
 opens-short : (own : PlainSetup) (r : Result MechBegun MechRefusal) (started : Started) → is_own_list own.list ≡ true → ((begun : MechBegun) → r ≡ Ok begun → FitsBeside begun.token) → opens own r ≡ Ok started → IsShort started.token
 opens-short own (Ok begun) started list fits e =
-    let is : record { end = ends.Opens (record { own = own; mech = begun.mech }); token = init_octets (first_sent own begun.token); makes = begun.makes } ≡ started = ok-is _ started e in
-    subst (λ (s : Started). IsShort s.token) is (first_short own begun.token list (fits begun refl))
+    let is : record { end = ends.Opens (record { own = own; mech = begun.mech }); token = first_octets own.negotiates (first_sent own begun.token); makes = begun.makes } ≡ started = ok-is _ started e in
+    subst (λ (s : Started). IsShort s.token) is (opening_short own.negotiates own begun.token list (fits begun refl))
 opens-short own (Err refusal) started list fits e = absurd cc
 
 starts-short : (own : PlainSetup) (draws : List (List ℕ)) (list : List MechCred) (started : Started) → is_own_list own.list ≡ true → IsDrawn own.draws → ((i : ℕ) (cred : MechCred) → slice_get list i ≡ Some cred → CredTold own draws cred) → starts own list ≡ Ok started → IsShort started.token
@@ -189,6 +189,7 @@ meeting own draws told setup kind occasions same m =
       begun_short = b.short;
       counted = m.counted;
       fit = fit;
+      bare = m.bare;
     }
 
 -- what a call tells that may want memory

@@ -39,7 +39,7 @@ use Rattle.spnego_core.specs.MechStates.{InitMech}
 use Rattle.spnego_core.specs.declared.accept_mech.AcceptMech.{AcceptMech}
 use Rattle.spnego_core.specs.declared.accept_mech.AcceptMech.TheVariants as mechs
 use Rattle.spnego_core.specs.declared.accept_end.Turn.{Turn}
-use Rattle.spnego_core.specs.declared.accept_end.Turn.TheVariants.{First, Later}
+use Rattle.spnego_core.specs.declared.accept_end.Turn.TheVariants.{First, Later, Bare}
 use Rattle.spnego_core.specs.declared.accept_end.Chosen.{Chosen}
 use Rattle.spnego_core.specs.declared.accept_end.Running.{Running}
 use Rattle.spnego_core.specs.declared.accept_end.Owing.{Owing}
@@ -64,15 +64,17 @@ use Rattle.spnego_core.specs.InitMech.{kind_of, kinds_of, oid_listed, is_own, is
 use Rattle.spnego_core.specs.Sizes.{IsShort}
 use Rattle.spnego_core.specs.Accepting as accepting
 use Rattle.spnego_core.specs.Initiating as initiating
-use Rattle.spnego_core.specs.Exchange.{Occasion, passed, passed_of, Completes, TicketFits, UserFits, Fitting, HonestPair}
+use Rattle.spnego_core.specs.Exchange.{Occasion, passed, passed_of, Completes, BareFits, TicketFits, UserFits, Fitting, HonestPair}
+use Rattle.spnego_core.specs.Bare.{takes_bare}
+use Rattle.spnego_core.proofs.Bares.{bare-list}
 use Rattle.spnego_core.proofs.InitSteps.{cred_for-kind}
 use Rattle.spnego_core.proofs.Sizes.{Within, answer_within}
 use Rattle.spnego_core.proofs.Listed.{listed-few}
-use Rattle.spnego_core.proofs.Short.{named_within, some-is, none-is, list_mic_within, resp_within}
-use Rattle.spnego_core.proofs.Spelled.{init_reads}
-use Rattle.spnego_core.proofs.Turns.{oid_on, end_at, chosen_on, Hears, hears_first, hears_later, switches}
+use Rattle.spnego_core.proofs.Short.{named_within, some-is, none-is, list_mic_within, resp_within, octets_short, last_short}
+use Rattle.spnego_core.proofs.Spelled.{init_asks, init_reads}
+use Rattle.spnego_core.proofs.Turns.{oid_on, end_at, chosen_on, Hears, hears_first, hears_later, hears_bare, switches}
 use Rattle.spnego_core.proofs.MechRounds.{request_begins, request-begins, text_begins, text-begins, pairs, texts-go}
-use Rattle.spnego_core.proofs.Exchanges.{Opened, opened_from, exchanges}
+use Rattle.spnego_core.proofs.Exchanges.{Opened, opened_from, negotiated, alone_from, only_cred, exchanges}
 use Rattle.pair_laws.specs.Walking.{Walks, HasNames, Walked}
 
 -- ---- what a step comes to
@@ -146,7 +148,8 @@ bind-fine stamp moment cred (Err refusal) next f = tt
 reply-fits : (turn : Turn) (chosen : Chosen) (owes finished : Bool) (token mic : Option (List ℕ)) → ((v : List ℕ) → token ≡ Some v → Within v 65000) → ((v : List ℕ) → mic ≡ Some v → Within v 28) → IsShort (accepting.reply turn (accepting.oid_chosen chosen) owes finished token mic)
 reply-fits turn chosen owes finished token mic t m =
     let few : length (accepting.oid_chosen chosen) ≤ 32 = omega (arith, listed-few chosen.received chosen.kind) in
-    omega (arith, (resp_within (accepting.reply_with turn (accepting.oid_chosen chosen) owes finished token mic) 65000 (λ v e. named_within turn (accepting.oid_chosen chosen) v few e) t m).most)
+    octets_short turn (accepting.reply_with turn (accepting.oid_chosen chosen) owes finished token mic)
+    (omega (arith, (resp_within (accepting.reply_with turn (accepting.oid_chosen chosen) owes finished token mic) 65000 (λ v e. named_within turn (accepting.oid_chosen chosen) v few e) t m).most)) (λ v e. omega (arith, (t v e).most))
 
 token-within : (token : List ℕ) → length token ≤ 65000 → (v : List ℕ) → Some token ≡ Some v → Within v 65000
 token-within token few v e = some-is token v 65000 (record { most = few }) e
@@ -203,13 +206,10 @@ proceeds-fine setup stamp moment cred now drawn size running resp known at w =
 closes-fine : (stamp moment : ℕ) (cred : MechCred) (owing : Owing) (resp : NegResp) → Lasts moment cred owing.outcome owing.lasts → FineOf stamp moment cred (accepting.step_of (accepting.closes owing resp))
 unfolding accepting.closes
 closes-fine stamp moment cred owing resp l =
-    bind-fine stamp moment cred (due Rejected (not (rejects resp.state))) (λ goes. or_refuse MicMissing resp.mic >>= (λ mic. due MicBad (is_list_mic owing.outcome Acceptor owing.received mic) >>= (λ right. Ok (accepting.settled owing mic))))
-    (λ goes. bind-fine stamp moment cred (or_refuse MicMissing resp.mic) (λ mic. due MicBad (is_list_mic owing.outcome Acceptor owing.received mic) >>= (λ right. Ok (accepting.settled owing mic)))
-    (λ mic. bind-fine stamp moment cred (due MicBad (is_list_mic owing.outcome Acceptor owing.received mic)) (λ right. Ok (accepting.settled owing mic))
-    (λ right. (none-short, l))))
-  where
-    none-short : IsShort []
-    none-short = omega arith
+    bind-fine stamp moment cred (due Rejected (not (rejects resp.state))) (λ goes. or_refuse MicMissing resp.mic >>= (λ mic. due MicBad (is_list_mic owing.outcome Acceptor owing.received mic) >>= (λ right. Ok (accepting.settled owing resp.state mic))))
+    (λ goes. bind-fine stamp moment cred (or_refuse MicMissing resp.mic) (λ mic. due MicBad (is_list_mic owing.outcome Acceptor owing.received mic) >>= (λ right. Ok (accepting.settled owing resp.state mic)))
+    (λ mic. bind-fine stamp moment cred (due MicBad (is_list_mic owing.outcome Acceptor owing.received mic)) (λ right. Ok (accepting.settled owing resp.state mic))
+    (λ right. (last_short resp.state, l))))
 
 holds-fine : (setup : AcceptSetup) (stamp moment : ℕ) (cred : MechCred) (end : AcceptEnd) (token : List ℕ) (occasion : Occasion) → moment ≤ greatest_moment → occasion.now ≡ moment → Holds moment cred end
     → FineOf stamp moment cred (accepting.step_of (accepting.accept_step setup end token occasion.now occasion.drawn))
@@ -316,21 +316,21 @@ first-chosen : (first cred : MechCred) (rest : List MechCred) (kind : MechKind) 
 first-chosen first cred rest kind same e = let is : Some first ≡ Some cred = sym (rw same refl) ∙ e in cc
 
 with-first : (setup : AcceptSetup) (own : PlainSetup) (cred : MechCred) (moment : ℕ) (occasions : List Occasion) (started : initiating.Started) (o : Opened own started)
-    → is_own_list own.list ≡ true → best setup.offer (initiating.own_list own) ≡ Some (kind_of cred) → cred_for own.list (kind_of cred) ≡ Some cred → length own.draws ≡ 66 → IsShort started.token
+    → own.negotiates ≡ true → is_own_list own.list ≡ true → best setup.offer (initiating.own_list own) ≡ Some (kind_of cred) → cred_for own.list (kind_of cred) ≡ Some cred → length own.draws ≡ 66 → IsShort started.token
     → AllByRecursion (Fitting setup own cred) occasions → is_first (kinds_of own.list) (kind_of cred) ≡ true → moment ≤ greatest_moment → AllByRecursion (IsNow moment) occasions
     → (outcome : Outcome) (c : Completes setup occasions ends.New started.end started.token outcome) → WalksOn setup own.stamp moment cred occasions ends.New started.end started.token outcome c
-with-first setup own cred moment [] started o list chosen is_cred draws short fits first known at outcome c = absurd c
-with-first setup own cred moment (occasion ∷ rest) started o list chosen is_cred draws short fits first known at outcome c =
+with-first setup own cred moment [] started o negotiates list chosen is_cred draws short fits first known at outcome c = absurd c
+with-first setup own cred moment (occasion ∷ rest) started o negotiates list chosen is_cred draws short fits first known at outcome c =
     let kind : MechKind = kind_of cred in
     let here : same_kind (kind_of o.first) kind ≡ true = subst (λ (l : List MechCred). is_first (kinds_of l) kind ≡ true) o.list first in
     let same : o.first ≡ cred = first-chosen o.first cred o.rest kind here (subst (λ (l : List MechCred). cred_for l kind ≡ Some cred) o.list is_cred) in
     let begins : init_begun own cred ≡ Ok o.begun = subst (λ (x : MechCred). init_begun own x ≡ Ok o.begun) same o.begins in
     let octets : List ℕ = init_octets (initiating.first_sent own o.begun.token) in
     let running : Running = accepting.begun setup (initiating.own_list own) kind in
-    let heard : Hears setup ends.New octets First running.chosen (accept_begun kind) o.begun.token = hears_first setup own kind o.begun.token list (subst IsShort o.token short) chosen (first-named own own.list kind ∙ first) in
+    let heard : Hears setup ends.New octets First running.chosen (accept_begun kind) o.begun.token = hears_first setup own kind o.begun.token list (subst IsShort (negotiated own started o negotiates) short) chosen (first-named own own.list kind ∙ first) in
     let fine = chosen-fine setup own cred occasion moment First ends.New octets running.chosen o.begun draws heard begins fits.0 known at.0 in
     walks-from setup own.stamp moment cred occasion rest ends.New started.end started.token outcome known at.1
-    (subst (λ (t : List ℕ). FineOf own.stamp moment cred (accepting.step_of (accepting.accept_step setup ends.New t occasion.now occasion.drawn))) (sym o.token) fine) c
+    (subst (λ (t : List ℕ). FineOf own.stamp moment cred (accepting.step_of (accepting.accept_step setup ends.New t occasion.now occasion.drawn))) (sym (negotiated own started o negotiates)) fine) c
 
 -- ---- another one is chosen
 
@@ -345,7 +345,7 @@ asked own kind = accepting.reply First (oid_on own kind) true false None None
 passes-over : (setup : AcceptSetup) (own : PlainSetup) (kind : MechKind) (token : List ℕ) (occasion : Occasion) → is_own_list own.list ≡ true → IsShort (init_octets (initiating.first_sent own token)) → best setup.offer (initiating.own_list own) ≡ Some kind → is_first_named (initiating.own_list own) kind ≡ false
     → accepting.step_of (accepting.accept_step setup ends.New (init_octets (initiating.first_sent own token)) occasion.now occasion.drawn) ≡ Ok (steps.More (waiting own kind) (asked own kind))
 unfolding accepting.begins
-passes-over setup own kind token occasion list short chosen other = rw (init_reads own token list short, chosen, other) refl
+passes-over setup own kind token occasion list short chosen other = rw (init_asks setup own token list short, init_reads own token list short, chosen, other) refl
 
 own-by : (b : Bool) (list : List MechCred) (kind : MechKind) (first cred : MechCred) → same_kind (kind_of first) kind ≡ b → (cred_for list kind ≡ Some cred → is_own list kind ≡ true) → (if b then Some first else cred_for list kind) ≡ Some cred → is_own (first ∷ list) kind ≡ true
 own-by true list kind first cred e more found = rw e refl
@@ -376,18 +376,18 @@ same-sent end other token another r e f = let both : Ok (initiated.More end toke
 
 -- once the acceptor passed the first token over
 walks-over : (setup : AcceptSetup) (own : PlainSetup) (cred : MechCred) (moment : ℕ) (occasion : Occasion) (rest : List Occasion) (started : initiating.Started) (mech : InitMech) (begun : MechBegun)
-    → started.end ≡ inits.Opens (record { own = own; mech = mech }) → accepting.step_of (accepting.accept_step setup ends.New started.token occasion.now occasion.drawn) ≡ Ok (steps.More (waiting own (kind_of cred)) (asked own (kind_of cred)))
+    → own.negotiates ≡ true → started.end ≡ inits.Opens (record { own = own; mech = mech }) → accepting.step_of (accepting.accept_step setup ends.New started.token occasion.now occasion.drawn) ≡ Ok (steps.More (waiting own (kind_of cred)) (asked own (kind_of cred)))
     → cred_for own.list (kind_of cred) ≡ Some cred → length own.draws ≡ 66 → init_begun own cred ≡ Ok begun → IsShort (resp_octets (initiating.token_sent begun.token)) → AllByRecursion (Fitting setup own cred) rest → is_first (kinds_of own.list) (kind_of cred) ≡ false
     → moment ≤ greatest_moment → AllByRecursion (IsNow moment) rest → (outcome : Outcome) (c : Completes setup (occasion ∷ rest) ends.New started.end started.token outcome) → WalksOn setup own.stamp moment cred (occasion ∷ rest) ends.New started.end started.token outcome c
-walks-over setup own cred moment occasion [] started mech begun end_is over is_cred draws begins begun_short fits other known at outcome c =
+walks-over setup own cred moment occasion [] started mech begun negotiates end_is over is_cred draws begins begun_short fits other known at outcome c =
     absurd (no-end (waiting own (kind_of cred)) (asked own (kind_of cred)) c.reply outcome c.lasts (passed_of (accepting.step_of (accepting.accept_step setup ends.New started.token occasion.now occasion.drawn))) (ap passed_of over) c.accepts)
-walks-over setup own cred moment occasion (next ∷ later) started mech begun end_is over is_cred draws begins begun_short fits other known at outcome c =
+walks-over setup own cred moment occasion (next ∷ later) started mech begun negotiates end_is over is_cred draws begins begun_short fits other known at outcome c =
     let kind : MechKind = kind_of cred in
     let step : Result AcceptStep NegRefusal = accepting.step_of (accepting.accept_step setup ends.New started.token occasion.now occasion.drawn) in
     let same = same-more (waiting own kind) c.0.acceptor_after (asked own kind) c.0.reply (passed_of step) (ap passed_of over) c.0.accepts in
     let sent : List ℕ = resp_octets (initiating.token_sent begun.token) in
     let after : EndSays = end_at Later own kind true begun.mech in
-    let goes : initiating.step_of (initiating.init_step (inits.Opens (record { own = own; mech = mech })) (asked own kind)) ≡ Ok (initiated.More after sent) = switches own kind mech cred begun (cred-own own.list kind cred is_cred) other is_cred begins in
+    let goes : initiating.step_of (initiating.init_step (inits.Opens (record { own = own; mech = mech })) (asked own kind)) ≡ Ok (initiated.More after sent) = switches own kind mech cred begun negotiates (cred-own own.list kind cred is_cred) other is_cred begins in
     let there : initiating.step_of (initiating.init_step started.end (asked own kind)) ≡ Ok (initiated.More after sent) = subst (λ (e : EndSays). initiating.step_of (initiating.init_step e (asked own kind)) ≡ Ok (initiated.More after sent)) (sym end_is) goes in
     let heard_so : initiating.step_of (initiating.init_step started.end c.0.reply) ≡ Ok (initiated.More after sent) = subst (λ (t : List ℕ). initiating.step_of (initiating.init_step started.end t) ≡ Ok (initiated.More after sent)) same.token_is there in
     let further : sent ≡ c.0.further = same-sent after c.0.initiator_after sent c.0.further (initiating.step_of (initiating.init_step started.end c.0.reply)) heard_so c.0.initiates in
@@ -400,28 +400,58 @@ walks-over setup own cred moment occasion (next ∷ later) started mech begun en
     record { walks = (no-mark own.stamp (waiting own kind) (asked own kind) step over, subst IsShort same.token_is short, w.walks); names = w.names }
 
 with-other : (setup : AcceptSetup) (own : PlainSetup) (cred : MechCred) (moment : ℕ) (occasions : List Occasion) (started : initiating.Started) (o : Opened own started) (begun : MechBegun)
-    → is_own_list own.list ≡ true → best setup.offer (initiating.own_list own) ≡ Some (kind_of cred) → cred_for own.list (kind_of cred) ≡ Some cred → length own.draws ≡ 66 → IsShort started.token → init_begun own cred ≡ Ok begun → IsShort (resp_octets (initiating.token_sent begun.token))
+    → own.negotiates ≡ true → is_own_list own.list ≡ true → best setup.offer (initiating.own_list own) ≡ Some (kind_of cred) → cred_for own.list (kind_of cred) ≡ Some cred → length own.draws ≡ 66 → IsShort started.token → init_begun own cred ≡ Ok begun → IsShort (resp_octets (initiating.token_sent begun.token))
     → AllByRecursion (Fitting setup own cred) occasions → is_first (kinds_of own.list) (kind_of cred) ≡ false → moment ≤ greatest_moment → AllByRecursion (IsNow moment) occasions
     → (outcome : Outcome) (c : Completes setup occasions ends.New started.end started.token outcome) → WalksOn setup own.stamp moment cred occasions ends.New started.end started.token outcome c
-with-other setup own cred moment [] started o begun list chosen is_cred draws short begins begun_short fits other known at outcome c = absurd c
-with-other setup own cred moment (occasion ∷ rest) started o begun list chosen is_cred draws short begins begun_short fits other known at outcome c =
+with-other setup own cred moment [] started o begun negotiates list chosen is_cred draws short begins begun_short fits other known at outcome c = absurd c
+with-other setup own cred moment (occasion ∷ rest) started o begun negotiates list chosen is_cred draws short begins begun_short fits other known at outcome c =
     let kind : MechKind = kind_of cred in
-    let first = passes-over setup own kind o.begun.token occasion list (subst IsShort o.token short) chosen (first-named own own.list kind ∙ other) in
+    let first = passes-over setup own kind o.begun.token occasion list (subst IsShort (negotiated own started o negotiates) short) chosen (first-named own own.list kind ∙ other) in
     let over : accepting.step_of (accepting.accept_step setup ends.New started.token occasion.now occasion.drawn) ≡ Ok (steps.More (waiting own kind) (asked own kind)) =
-    subst (λ (t : List ℕ). accepting.step_of (accepting.accept_step setup ends.New t occasion.now occasion.drawn) ≡ Ok (steps.More (waiting own kind) (asked own kind))) (sym o.token) first in
-    walks-over setup own cred moment occasion rest started o.begun.mech begun o.end over is_cred draws begins begun_short fits.1 other known at.1 outcome c
+    subst (λ (t : List ℕ). accepting.step_of (accepting.accept_step setup ends.New t occasion.now occasion.drawn) ≡ Ok (steps.More (waiting own kind) (asked own kind))) (sym (negotiated own started o negotiates)) first in
+    walks-over setup own cred moment occasion rest started o.begun.mech begun negotiates o.end over is_cred draws begins begun_short fits.1 other known at.1 outcome c
+
+-- ---- without negotiation
+
+alone-walks : (setup : AcceptSetup) (own : PlainSetup) (credential : Granted) (moment : ℕ) (occasions : List Occasion) (started : initiating.Started) (begun : MechBegun)
+    → own.negotiates ≡ false → own.list ≡ creds.Kerberos Standard credential ∷ [] → takes_bare setup ≡ true → length own.draws ≡ 66 → initiating.init_start own ≡ Ok started → init_begun own (creds.Kerberos Standard credential) ≡ Ok begun
+    → AllByRecursion (Fitting setup own (creds.Kerberos Standard credential)) occasions → moment ≤ greatest_moment → AllByRecursion (IsNow moment) occasions
+    → (outcome : Outcome) (c : Completes setup occasions ends.New started.end started.token outcome) → WalksOn setup own.stamp moment (creds.Kerberos Standard credential) occasions ends.New started.end started.token outcome c
+alone-walks setup own credential moment [] started begun negotiates list takes draws starts begins fits known at outcome c = absurd c
+alone-walks setup own credential moment (occasion ∷ rest) started begun negotiates list takes draws starts begins fits known at outcome c =
+    let cred : MechCred = creds.Kerberos Standard credential in
+    let same : begun ≡ request_begins own credential = begun-is begun (request_begins own credential) (init_begun own cred) begins (request-begins setup own Standard credential occasion fits.0.facts) in
+    let token_is : started.token ≡ request_token credential own.stamp own.draws own.bindings = (alone_from own credential begun started negotiates list begins starts).1 ∙ ap (λ (b : MechBegun). b.token) same in
+    let heard = hears_bare setup own credential list fits.0.facts.request takes in
+    let fine : FineOf own.stamp moment cred (accepting.step_of (accepting.accept_step setup ends.New (request_token credential own.stamp own.draws own.bindings) occasion.now occasion.drawn)) =
+    rw (heard occasion.now occasion.drawn) (request-fine setup own Standard credential occasion moment Bare (chosen_on own kinds.Kerberos false) draws fits.0.drawn fits.0.facts known at.0) in
+    walks-from setup own.stamp moment cred occasion rest ends.New started.end started.token outcome known at.1
+    (subst (λ (t : List ℕ). FineOf own.stamp moment cred (accepting.step_of (accepting.accept_step setup ends.New t occasion.now occasion.drawn))) (sym token_is) fine) c
+
+with-alone : (setup : AcceptSetup) (own : PlainSetup) (cred : MechCred) (moment : ℕ) (occasions : List Occasion) (started : initiating.Started) (begun : MechBegun)
+    → own.negotiates ≡ false → BareFits setup own → cred_for own.list (kind_of cred) ≡ Some cred → length own.draws ≡ 66 → initiating.init_start own ≡ Ok started → init_begun own cred ≡ Ok begun
+    → AllByRecursion (Fitting setup own cred) occasions → moment ≤ greatest_moment → AllByRecursion (IsNow moment) occasions
+    → (outcome : Outcome) (c : Completes setup occasions ends.New started.end started.token outcome) → WalksOn setup own.stamp moment cred occasions ends.New started.end started.token outcome c
+with-alone setup own cred moment occasions started begun negotiates bare is_cred draws starts begins fits known at outcome c =
+    let a = bare-list own.list bare.list in
+    let same : creds.Kerberos Standard a.credential ≡ cred = only_cred a.credential cred (subst (λ (l : List MechCred). cred_for l (kind_of cred) ≡ Some cred) a.is is_cred) in
+    subst (λ (x : MechCred). init_begun own x ≡ Ok begun → AllByRecursion (Fitting setup own x) occasions → WalksOn setup own.stamp moment x occasions ends.New started.end started.token outcome c) same
+    (λ b f. alone-walks setup own a.credential moment occasions started begun negotiates a.is bare.takes draws starts b f known at outcome c) begins fits
 
 -- ---- an honest pair
 
 by-cred : (setup : AcceptSetup) (own : PlainSetup) (cred : MechCred) (moment : ℕ) (occasions : List Occasion) (started : initiating.Started) (begun : MechBegun)
-    → is_own_list own.list ≡ true → best setup.offer (initiating.own_list own) ≡ Some (kind_of cred) → cred_for own.list (kind_of cred) ≡ Some cred → length own.draws ≡ 66 → initiating.init_start own ≡ Ok started → IsShort started.token → init_begun own cred ≡ Ok begun → IsShort (resp_octets (initiating.token_sent begun.token))
+    → (own.negotiates ≡ false → BareFits setup own) → is_own_list own.list ≡ true → best setup.offer (initiating.own_list own) ≡ Some (kind_of cred) → cred_for own.list (kind_of cred) ≡ Some cred → length own.draws ≡ 66 → initiating.init_start own ≡ Ok started → IsShort started.token → init_begun own cred ≡ Ok begun → IsShort (resp_octets (initiating.token_sent begun.token))
     → AllByRecursion (Fitting setup own cred) occasions → moment ≤ greatest_moment → AllByRecursion (IsNow moment) occasions
     → (outcome : Outcome) (c : Completes setup occasions ends.New started.end started.token outcome) → WalksOn setup own.stamp moment cred occasions ends.New started.end started.token outcome c
-by-cred setup own cred moment occasions started begun list chosen is_cred draws starts short begins begun_short fits known at outcome c =
+by-cred setup own cred moment occasions started begun bare list chosen is_cred draws starts short begins begun_short fits known at outcome c =
     let o = opened_from own own.list started refl starts in
-    elim (cases_Bool (is_first (kinds_of own.list) (kind_of cred))) [
-      | inl first ↦ with-first setup own cred moment occasions started o list chosen is_cred draws short fits first known at outcome c
-      | inr other ↦ with-other setup own cred moment occasions started o begun list chosen is_cred draws short begins begun_short fits other known at outcome c
+    elim (cases_Bool own.negotiates) [
+      | inl negotiates ↦ elim (cases_Bool (is_first (kinds_of own.list) (kind_of cred))) [
+        | inl first ↦ with-first setup own cred moment occasions started o negotiates list chosen is_cred draws short fits first known at outcome c
+        | inr other ↦ with-other setup own cred moment occasions started o begun negotiates list chosen is_cred draws short begins begun_short fits other known at outcome c
+      ]
+      | inr alone ↦ with-alone setup own cred moment occasions started begun alone (bare alone) is_cred draws starts begins fits known at outcome c
     ]
 
 same-cred : (a b : MechCred) (r : Option MechCred) → r ≡ Some a → r ≡ Some b → a ≡ b
@@ -434,7 +464,7 @@ walked setup own kind moment occasions h at known =
     let same : kind ≡ kind_of h.cred = sym (cred_for-kind own.list kind h.cred h.is_cred) in
     let chosen : best setup.offer (initiating.own_list own) ≡ Some (kind_of h.cred) = subst (λ (k : MechKind). best setup.offer (initiating.own_list own) ≡ Some k) same h.chosen in
     let is_cred : cred_for own.list (kind_of h.cred) ≡ Some h.cred = subst (λ (k : MechKind). cred_for own.list k ≡ Some h.cred) same h.is_cred in
-    let w = by-cred setup own h.cred moment occasions h.started h.begun h.is_list chosen is_cred h.draws h.starts h.short h.begins h.begun_short h.fit known at a.outcome a.completes in
+    let w = by-cred setup own h.cred moment occasions h.started h.begun h.bare h.is_list chosen is_cred h.draws h.starts h.short h.begins h.begun_short h.fit known at a.outcome a.completes in
     record {
       outcome = a.outcome;
       mech = a.mech;

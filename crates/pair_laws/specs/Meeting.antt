@@ -1,6 +1,6 @@
 -- An honest pair by its facts alone: all else that `HonestPair` asks for is found out of the types
 -- of an initiator's parts, and of what an acceptor draws.
-use Rattle.std.specs.Prelude.{◌≡◌, ℕ, ◌≤◌, true, is_ok, List, length, map, slice_get, Option}
+use Rattle.std.specs.Prelude.{◌≡◌, ℕ, ◌≤◌, true, false, is_ok, List, length, map, slice_get, Option}
 use Rattle.std.specs.Prelude.{Some}
 use Rattle.std.specs.List.{AllByRecursion}
 use Rattle.gss_base.specs.declared.mech.MechKind.{MechKind}
@@ -17,7 +17,7 @@ use Rattle.spnego_core.specs.declared.setup.MechCred.{MechCred}
 use Rattle.spnego_core.specs.declared.setup.MechCred.TheVariants as creds
 use Rattle.spnego_core.specs.Ends.{PlainSetup}
 use Rattle.spnego_core.specs.Choice.{best}
-use Rattle.spnego_core.specs.Exchange.{Occasion, UserFits, HonestPair, tokens_of}
+use Rattle.spnego_core.specs.Exchange.{Occasion, UserFits, BareFits, HonestPair, tokens_of}
 use Rattle.spnego_core.specs.InitMech.{is_own_list, cred_for}
 use Rattle.spnego_core.specs.Initiating.{own_list, init_start}
 
@@ -40,6 +40,7 @@ pub record Meets (setup : AcceptSetup) (own : PlainSetup) (kind : MechKind)
   pub is_cred : cred_for own.list kind ≡ Some cred
   pub counted : length occasions ≡ tokens_of setup own kind
   pub facts : AllByRecursion (CredMeets setup own cred) occasions
+  pub bare : own.negotiates ≡ false → BareFits setup own
 
 -- what each occasion has drawn
 abbrev pub drawn_on : List Occasion → List (List ℕ)

@@ -1,5 +1,5 @@
 -- Runs that ended before a word was spoken.
-use Rattle.std.proofs.Common.{◌≡◌, ◌≢◌, inl, inr, ◌∙◌, ap, sym, refl, ℕ, Bool, List, [], Option, None, Result, Ok, Err}
+use Rattle.std.proofs.Common.{◌≡◌, ◌≢◌, inl, inr, ◌∙◌, ap, sym, refl, ℕ, Bool, false, List, [], Option, None, Result, Ok, Err}
 use Rattle.sec_base.specs.declared.shelf.Shelf as shelves
 use Rattle.sec_base.specs.declared.sink.Sink as sinks
 use Rattle.gss_base.specs.Name.{Name}
@@ -30,7 +30,7 @@ use Rattle.sasl_command.proofs.AskTurns.{spoke-at, spoke-as}
 -- there was no memory for a setup
 pub unserved : (keytab : List Entry) (name : Name) (wished : Wished) (wish : Wish) (a : Seen) → IsWish wish wished → Served keytab name wished a a None NoMemory
 unserved keytab name wished wish a is =
-    let setup : AcceptSetup = record { own = name; keytab = keytab; verifiers = []; bindings = None; offer = [] } in
+    let setup : AcceptSetup = record { own = name; keytab = keytab; verifiers = []; bindings = None; offer = []; bare = false } in
     record {
       setup = setup;
       is_setup = record { keytab_is = refl; own_is = refl; unbound = refl };

@@ -68,6 +68,7 @@ fn setup_of(alloc: Global, keytab: Keytab, own: Principal) -> Result<AcceptSetup
             verifiers,
             bindings: None,
             offer: Items::of(Vec::new(alloc)),
+            bare: false,
         }),
         Err(_) => {
             drop(keytab);

@@ -33,13 +33,15 @@ abbrev pub keeping_of : Options → Keeping
 keeping_of options = record { entries = is_some options.log; digest = options.digest }
 
 -- a book as it is opened: for the own name, with these keys and the bindings of the options,
--- offering the options' mechanisms in their order, under the options' limits, without contexts
+-- offering the options' mechanisms in their order, taking a request without negotiation where the
+-- options say so, under the options' limits, without contexts
 pub record IsOpened (options : Options) (keys : Keys) (start : ℕ) (book : BookOf) : Type 0 where
   pub own : book.setup.own ≡ options.name
   pub keytab : book.setup.keytab ≡ keys.keytab
   pub verifiers : book.setup.verifiers ≡ keys.verifiers
   pub bindings : book.setup.bindings ≡ options.bindings
   pub offer : book.setup.offer ≡ options.offer
+  pub bare : book.setup.bare ≡ options.bare
   pub history : book.core.history ≡ []
   pub limit : book.core.limit ≡ log_limit options.log
   pub width : book.core.width ≡ options.window

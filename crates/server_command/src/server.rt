@@ -143,6 +143,7 @@ fn open_book(
         verifiers: keys.verifiers,
         bindings: options.bindings,
         offer: options.offer,
+        bare: options.bare,
     };
     OwnSeat::open(alloc, setup, limits, start)
 }
@@ -465,8 +466,8 @@ where
 }
 
 /// Runs the server over its desks, side by side where threads can be made, and says on `err` how it ended. The words are
-/// `ADDRESS --keytab FILE --verifiers FILE --name PRINCIPAL [--bind TEXT] [--offer LIST] [--window N] [--connections N] [--contexts N] [--marks N]
-/// [--log N] [--desks N] [--idle SECONDS] [--control PATH] [--journal FILE] [--digest sha1]`. How many desks there are, how long a connection may be silent, and
+/// `ADDRESS --keytab FILE --verifiers FILE --name PRINCIPAL [--bind TEXT] [--offer LIST] [--bare krb5|none] [--window N] [--connections N] [--contexts N]
+/// [--marks N] [--log N] [--desks N] [--idle SECONDS] [--control PATH] [--journal FILE] [--digest sha1]`. How many desks there are, how long a connection may be silent, and
 /// where the run can be stopped, whoever made them knows. Where the words name a journal, the disk is its file: it is opened once the keys were
 /// found, and is back at the return. The program is served to all desks, each of which has its own speller of the program's results, and comes back.
 pub fn run_server<
@@ -545,7 +546,8 @@ where
         → is_begun result.end ≡ true → HasLimits options result.log }
     // One book, of the setup that words, keytab and verifiers give, gave all answers to the desks, in one order, from its opening to the log that is
     // returned: of each desk the questions of its connections, in the desk's order, and no others. With a journal a desk is told, in the place of an
-    // answer by which the book took an authenticator, that the journal refuses it; that its disk failed only where the disk's count of faults rose. Its offer is that of the words, in their order. Each
+    // answer by which the book took an authenticator, that the journal refuses it; that its disk failed only where the disk's count of faults rose. Its offer is that of the words, in their order, and it takes a
+    // request without negotiation where the words say so. Each
     // desk served the first links of its port, in order; where it is done, all of them or as many as the run serves. Or no book was opened: then the
     // desks and the program are as they were, and the log is empty and has no limits. The program entered each call whose number was taken once, in the
     // order of the log, and no other; and each desk was told of its own calls what is spelled, once, from the tickets of their own entries.

@@ -41,7 +41,7 @@ opened-agrees options keys start book o = record {
 opened-is : (options : Options) (keys : Keys) (start : ℕ) (book : BookOf) → IsOpened options keys start book → book_as book ≡ opened_book options keys start
 opened-is options keys start book o = λ i.
     let empty : BookOf = record {
-      setup = record { own = o.own i; keytab = o.keytab i; verifiers = o.verifiers i; bindings = o.bindings i; offer = o.offer i };
+      setup = record { own = o.own i; keytab = o.keytab i; verifiers = o.verifiers i; bindings = o.bindings i; offer = o.offer i; bare = o.bare i };
       core = record {
         history = o.history i;
         limit = o.limit i;

@@ -44,6 +44,7 @@ opened_book options keys start = record {
     verifiers = keys.verifiers;
     bindings = options.bindings;
     offer = options.offer;
+    bare = options.bare;
   };
   core = record {
     history = [];

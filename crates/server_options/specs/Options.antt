@@ -19,9 +19,9 @@ use Rattle.server_options.specs.declared.options.Options.{Options}
 -- the names of the options
 abbrev pub names : List (List ℕ)
 names = codes "--keytab" ∷ codes "--verifiers" ∷ codes "--name" ∷ codes "--bind" ∷ codes "--offer"
-    ∷ codes "--window" ∷ codes "--connections" ∷ codes "--contexts" ∷ codes "--marks"
-    ∷ codes "--log" ∷ codes "--desks" ∷ codes "--idle" ∷ codes "--control" ∷ codes "--journal"
-    ∷ codes "--digest" ∷ []
+    ∷ codes "--bare" ∷ codes "--window" ∷ codes "--connections" ∷ codes "--contexts"
+    ∷ codes "--marks" ∷ codes "--log" ∷ codes "--desks" ∷ codes "--idle" ∷ codes "--control"
+    ∷ codes "--journal" ∷ codes "--digest" ∷ []
 
 -- two words are the same
 abbrev pub same : List ℕ → List ℕ → Bool
@@ -86,7 +86,17 @@ abbrev pub digest_given : Option (List ℕ) → Result Bool WordsRefusal
 digest_given None = Ok false
 digest_given (Some text) = if same text (codes "sha1") then Ok true else Err Usage
 
--- the numbers of the options, and whether the log's digest is kept
+-- a request that comes without negotiation (RFC 4178 section 3.2) is taken where the option names
+-- its mechanism
+abbrev pub bare_given : Option (List ℕ) → Result Bool WordsRefusal
+bare_given None = Ok false
+bare_given (Some text) =
+    if same text (codes "krb5") then Ok true
+    else if same text (codes "none") then Ok false
+    else Err Usage
+
+-- the numbers of the options, whether the log's digest is kept, and whether a request without
+-- negotiation is taken
 abbrev pub numbers_given : List (List ℕ) → Result Numbers WordsRefusal
 numbers_given words = do
   window ← number_given 1 1024 128 (value_of (codes "--window") words)
@@ -97,6 +107,7 @@ numbers_given words = do
   desks ← number_given 1 1024 64 (value_of (codes "--desks") words)
   idle ← number_given 1 86400 60 (value_of (codes "--idle") words)
   digest ← digest_given (value_of (codes "--digest") words)
+  bare ← bare_given (value_of (codes "--bare") words)
   Ok (record {
     window = window;
     connections = connections;
@@ -106,6 +117,7 @@ numbers_given words = do
     desks = desks;
     idle = idle;
     digest = digest;
+    bare = bare;
   })
 
 -- what the options of words in the command ask for
@@ -124,11 +136,13 @@ options_in words = do
   desks ← number_given 1 1024 64 (value_of (codes "--desks") words)
   idle ← number_given 1 86400 60 (value_of (codes "--idle") words)
   digest ← digest_given (value_of (codes "--digest") words)
+  bare ← bare_given (value_of (codes "--bare") words)
   Ok (record {
     files = files;
     name = name;
     bindings = bound;
     offer = offer;
+    bare = bare;
     window =
         window;
     connections = connections;

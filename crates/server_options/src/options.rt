@@ -6,7 +6,7 @@ ghost use Rattle.cli_base.specs.Words.{is_dashed, value_of};
 ghost use Rattle.server_options.specs.Options.{is_command, formed, name_by, files_given};
 ghost use Rattle.server_options.specs.Options.{name_given, offer_by, offer_given};
 ghost use Rattle.server_options.specs.Options.{numbers_given, options_in, options_of};
-ghost use Rattle.server_options.specs.Options.{limit_given, digest_given};
+ghost use Rattle.server_options.specs.Options.{limit_given, digest_given, bare_given};
 ghost use Rattle.server_options.specs.Options.{AreRanged, IsRanged};
 ghost use Rattle.gss_base.specs.Signs.{parsed};
 
@@ -37,6 +37,8 @@ pub struct Options {
     /// The mechanisms that are offered, the preferred first. They are mechanisms and not object identifiers: if single identifiers were offered,
     /// an altered list and an altered `supportedMech` could complete a mechanism that isn't the best one.
     pub offer: Items<MechKind>,
+    /// Whether a request of Kerberos that comes without negotiation is taken, where Kerberos is the first that is offered.
+    pub bare: bool,
     /// The width of the windows, in numbers.
     pub window: u32,
     /// How many connections the run serves for each desk; None where they don't end it.
@@ -73,6 +75,7 @@ fn is_command(words: &[Text]) -> bool
                 "--name",
                 "--bind",
                 "--offer",
+                "--bare",
                 "--window",
                 "--connections",
                 "--contexts",
@@ -232,7 +235,25 @@ fn digest_given(line: &Line<'_>) -> Result<bool, WordsRefusal>
     }
 }
 
-/// The numbers of the options, and whether the log's digest is kept.
+/// Whether a request that comes without negotiation is taken: where the option names its mechanism.
+fn bare_given(line: &Line<'_>) -> Result<bool, WordsRefusal>
+    ensures { result ≡ bare_given (value_of (codes "--bare") line.now) }
+{
+    match line.value("--bare") {
+        None => Ok(false),
+        Some(text) => {
+            if text == "krb5" {
+                return Ok(true);
+            }
+            if text == "none" {
+                return Ok(false);
+            }
+            Err(WordsRefusal::Usage)
+        }
+    }
+}
+
+/// The numbers of the options, whether the log's digest is kept, and whether a request without negotiation is taken.
 #[derive(Clone, Copy)]
 struct Numbers {
     window: u32,
@@ -243,9 +264,10 @@ struct Numbers {
     desks: u32,
     idle: u32,
     digest: bool,
+    bare: bool,
 }
 
-/// The numbers that a line asks for.
+/// The numbers that a line asks for, and its two choices.
 fn numbers_given(line: &Line<'_>) -> Result<Numbers, WordsRefusal>
     ensures value { result ≡ numbers_given line.now }
     ensures range { IfOk result AreRanged }
@@ -258,6 +280,7 @@ fn numbers_given(line: &Line<'_>) -> Result<Numbers, WordsRefusal>
     let desks = number_given(line, "--desks", 1, 1024, 64)?;
     let idle = number_given(line, "--idle", 1, 86_400, 60)?;
     let digest = digest_given(line)?;
+    let bare = bare_given(line)?;
     Ok(Numbers {
         window,
         connections,
@@ -267,6 +290,7 @@ fn numbers_given(line: &Line<'_>) -> Result<Numbers, WordsRefusal>
         desks,
         idle,
         digest,
+        bare,
     })
 }
 
@@ -298,6 +322,7 @@ fn options_by(parts: (Owned, Numbers)) -> Options
       name = parts.0.0.1;
       bindings = parts.0.1.0;
       offer = parts.0.1.1;
+      bare = parts.1.bare;
       window = parts.1.window;
       connections = parts.1.connections;
       contexts = parts.1.contexts;
@@ -317,6 +342,7 @@ fn options_by(parts: (Owned, Numbers)) -> Options
         name,
         bindings,
         offer,
+        bare: numbers.bare,
         window: numbers.window,
         connections: numbers.connections,
         contexts: numbers.contexts,

@@ -1,5 +1,5 @@
 -- What a session by a user's password begins with.
-use Rattle.std.specs.Prelude.{ℕ, List, [], ◌∷◌, None}
+use Rattle.std.specs.Prelude.{ℕ, true, List, [], ◌∷◌, None}
 use Rattle.spnego_core.specs.Ends.{PlainSetup, setup_of}
 use Rattle.spnego_core.specs.declared.setup.InitFacts.{InitFacts}
 use Rattle.spnego_core.specs.declared.setup.MechCred.TheVariants.{Scram}
@@ -25,6 +25,7 @@ password_facts user password draws = record {
   bindings = None;
   stamp = 0;
   draws = draws;
+  negotiates = true;
 }
 
 -- a session by this password begins so

@@ -113,6 +113,7 @@ fn acceptor_with(alloc: Global, verifiers: Verifiers) -> Option<AcceptSetup>
         verifiers,
         bindings: None,
         offer,
+        bare: false,
     })
 }
 

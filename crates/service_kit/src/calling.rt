@@ -3,7 +3,7 @@
 ghost use Rattle.std.specs.Prelude.{◌≡◌, ◌≤◌, [], ◌∷◌, IfSome, IsTrue, None, false, map, true};
 ghost use Rattle.sec_base.specs.Answers.{Rose};
 ghost use Rattle.spnego_core.specs.Ends.{setup_of};
-ghost use Rattle.spnego_core.specs.InitMech.{is_own_list};
+ghost use Rattle.spnego_core.specs.InitMech.{is_own_list, is_bare_list};
 ghost use Rattle.init_ends.specs.Arming.{AreStandard};
 ghost use Rattle.gss_client.specs.Conferring.{calls_of};
 ghost use Rattle.gss_client.specs.Holding.{TalkedOf};
@@ -44,6 +44,7 @@ fn password_facts(alloc: Global, user: &str, password: &str, draws: [u8; 66]) ->
         bindings: None,
         stamp: Moment::start(),
         draws,
+        negotiates: true,
     })
 }
 
@@ -60,6 +61,7 @@ fn hold_by<L: Link, D: Draw, Q: Query>(
     requires unclosed { L.closed link.old ≡ false }
     requires blank { AreStandard (map meaning mechs.items) }
     requires list { is_own_list facts.list ≡ true }
+    requires bare { facts.negotiates ≡ false → is_bare_list facts.list ≡ true }
     ensures told { IsTrue (L.tells link.old) → IfSome result (λ talk. TalkedOf (D.tells draw.new)
         (D.given draw.old) (D.given draw.new) (start_from (setup_of facts) terms)
         (calls_of Q.says due.now) (L.wire link.old) (L.wire link.new) talk.outcome

@@ -17,6 +17,7 @@ use Rattle.scram_mech.specs.MechMaking.{MechMaking, AmongMakings, typed}
 use Rattle.scram_mech.specs.Acceptor.{AcceptModel, AcceptStarted, AcceptFinished, accept_started, accept_finished}
 use Rattle.scram_mech.proofs.ExchangeLaws.{takes}
 use Rattle.spnego_core.proofs.Makings.{among_split}
+use Rattle.spnego_core.proofs.Bares.{IsBare, bare-is, best-bare}
 use Rattle.spnego_core.specs.declared.outcome.Outcome.{Outcome}
 use Rattle.spnego_core.specs.declared.refusal.NegRefusal.{NegRefusal}
 use Rattle.spnego_core.specs.declared.refusal.NegRefusal.TheVariants.{Defective, Rejected, NoCommonMech, MicMissing, MicBad}
@@ -24,7 +25,7 @@ use Rattle.spnego_core.specs.declared.setup.AcceptSetup.{AcceptSetup}
 use Rattle.spnego_core.specs.declared.accept_mech.AcceptMech.{AcceptMech}
 use Rattle.spnego_core.specs.declared.accept_mech.AcceptMech.TheVariants as mechs
 use Rattle.spnego_core.specs.declared.accept_end.Turn.{Turn}
-use Rattle.spnego_core.specs.declared.accept_end.Turn.TheVariants.{First, Later}
+use Rattle.spnego_core.specs.declared.accept_end.Turn.TheVariants.{First, Later, Bare}
 use Rattle.spnego_core.specs.declared.accept_end.Chosen.{Chosen}
 use Rattle.spnego_core.specs.declared.accept_end.Running.{Running}
 use Rattle.spnego_core.specs.declared.accept_end.Owing.{Owing}
@@ -37,8 +38,9 @@ use Rattle.spnego_core.specs.Steps.{◌>>=◌, due, or_refuse}
 use Rattle.spnego_core.specs.Tokens.{init_read, resp_read, rejects}
 use Rattle.spnego_core.specs.ListMic.{is_list_mic, mic_making}
 use Rattle.spnego_core.specs.Choice.{is_first_named, best}
+use Rattle.spnego_core.specs.Bare.{bare_oid}
 use Rattle.spnego_core.specs.AcceptMech.{accept_begun, request_answered, request_taken, text_taken, proof_answered, proof_taken, accept_taken}
-use Rattle.spnego_core.specs.Accepting.{Fixed, Accepted, finished, gone_on, mic_made, ran_with, run, begun, token_for, started, chose, begins, proceeds, settled, closes, accept_step}
+use Rattle.spnego_core.specs.Accepting.{Fixed, Accepted, finished, gone_on, mic_made, ran_with, run, begun, token_for, started, chose, begins, first_taken, proceeds, settled, closes, accept_step}
 use Rattle.spnego_core.specs.AcceptLaws.{received_of, settled_of, proof_due, waits_for_proof, kind_of_accept, IsOfLine, GoodMech, GoodChosen, GoodRunning, GoodAccept, AfterAnswered, AfterStep, outcome_after, Fixes, AcceptLaw}
 
 -- a fact of a step that was taken
@@ -248,19 +250,29 @@ closes-law : (setup : AcceptSetup) (now : ℕ) (draws : List ℕ) (owing : Owing
 unfolding closes
 closes-law setup now draws owing resp =
     on-due (AcceptLaw setup (ends.Owes owing) now draws) Rejected (not (rejects resp.state))
-    (or_refuse MicMissing resp.mic >>= (λ mic. due MicBad (is_list_mic owing.outcome Acceptor owing.received mic) >>= (λ right. Ok (settled owing mic))))
+    (or_refuse MicMissing resp.mic >>= (λ mic. due MicBad (is_list_mic owing.outcome Acceptor owing.received mic) >>= (λ right. Ok (settled owing resp.state mic))))
     (λ goes. on-bind {A = List ℕ} (AcceptLaw setup (ends.Owes owing) now draws) (or_refuse MicMissing resp.mic)
-    (λ mic. due MicBad (is_list_mic owing.outcome Acceptor owing.received mic) >>= (λ right. Ok (settled owing mic)))
-    (λ mic. on-due (AcceptLaw setup (ends.Owes owing) now draws) MicBad (is_list_mic owing.outcome Acceptor owing.received mic) (Ok (settled owing mic))
+    (λ mic. due MicBad (is_list_mic owing.outcome Acceptor owing.received mic) >>= (λ right. Ok (settled owing resp.state mic)))
+    (λ mic. on-due (AcceptLaw setup (ends.Owes owing) now draws) MicBad (is_list_mic owing.outcome Acceptor owing.received mic) (Ok (settled owing resp.state mic))
     (λ e. record {
       after = inr (record { owing = owing; was = refl; outcome_is = refl; mic = mic; right = e; verified = inl refl });
       fixes = λ fixed f. absurd (none-some fixed f);
       unfixed = λ f. refl;
     })))
 
-step-law : (setup : AcceptSetup) (old : AcceptEnd) (token : List ℕ) (now : ℕ) (draws : List ℕ) → GoodAccept setup old → On (AcceptLaw setup old now draws) (accept_step setup old token now draws)
-step-law setup ends.New token now draws good =
+-- a request that came without negotiation: its list is the one identifier in its frame
+bare-law : (setup : AcceptSetup) (now : ℕ) (draws token oid : List ℕ) → IsBare setup oid → On (AcceptLaw setup ends.New now draws) (run Bare (begun setup (oid ∷ []) kinds.Kerberos).chosen (accept_taken setup mechs.Kerberos token now draws))
+bare-law setup now draws token oid is =
+    mech-law setup ends.New now draws Bare (begun setup (oid ∷ []) kinds.Kerberos).chosen mechs.Kerberos token
+    (record { best_is = best-bare setup.offer oid is.first is.named; due_is = refl }) refl tt (λ end e. absurd (begun-waits kinds.Kerberos end e)) refl (λ list h. absurd (let f : None ≡ Some list = h in cc))
+
+first-law : (setup : AcceptSetup) (now : ℕ) (draws token : List ℕ) (oid : Option (List ℕ)) → bare_oid setup token ≡ oid → On (AcceptLaw setup ends.New now draws) (first_taken setup now draws token oid)
+first-law setup now draws token None e =
     on-bind {A = NegInit} (AcceptLaw setup ends.New now draws) (init_read token) (begins setup now draws) (λ init. begins-law setup now draws init)
+first-law setup now draws token (Some oid) e = bare-law setup now draws token oid (bare-is setup token oid e)
+
+step-law : (setup : AcceptSetup) (old : AcceptEnd) (token : List ℕ) (now : ℕ) (draws : List ℕ) → GoodAccept setup old → On (AcceptLaw setup old now draws) (accept_step setup old token now draws)
+step-law setup ends.New token now draws good = first-law setup now draws token (bare_oid setup token) refl
 step-law setup (ends.Runs running) token now draws good =
     on-bind {A = NegResp} (AcceptLaw setup (ends.Runs running) now draws) (resp_read token) (proceeds setup now draws (length token) running) (λ resp. proceeds-law setup now draws (length token) running resp good)
 step-law setup (ends.Owes owing) token now draws good =

@@ -22,7 +22,7 @@ use Rattle.spnego_core.specs.Choice.{is_first}
 use Rattle.spnego_core.specs.ListMic.{mic_found}
 use Rattle.spnego_core.specs.Reasons.{neg_wants_memory}
 use Rattle.spnego_core.specs.Steps.{due, or_refuse}
-use Rattle.spnego_core.specs.Tokens.{resp_read, last_read, rejects}
+use Rattle.spnego_core.specs.Tokens.{first_read, resp_read, last_read, rejects}
 use Rattle.spnego_core.proofs.MechReasons.{MechReasoned, init_begun-reasoned, init_taken-reasoned, Reasoned, reason-of, reason-ok, reason-err, reason-bind, reason-if, reason-due, reason-or}
 use Rattle.spnego_core.proofs.AcceptReasons.{resp_read-reasoned}
 
@@ -113,12 +113,17 @@ closed-reasoned signed resp =
     (λ goes. reason-bind (due MechNotMine (is_chosen signed.talk.chosen resp.mech)) _ (reason-due MechNotMine (is_chosen signed.talk.chosen resp.mech) refl)
     (λ same. again-reasoned signed resp.state resp.mic))
 
+first-reasoned : (negotiates : Bool) (list : List (List ℕ)) (token : List ℕ) → Reasoned (first_read negotiates list token)
+first-reasoned true list token = resp_read-reasoned token
+first-reasoned false list token = reason-ok _
+
 last-reasoned : (token : List ℕ) → Reasoned (last_read token)
 last-reasoned [] = reason-ok _
 last-reasoned (octet ∷ octets) = resp_read-reasoned (octet ∷ octets)
 
 step-reasoned : (old : EndSays) (token : List ℕ) → Reasoned (init_step old token)
-step-reasoned (ends.Opens opening) token = reason-bind (resp_read token) _ (resp_read-reasoned token) (opened-reasoned (length token) opening)
+step-reasoned (ends.Opens opening) token =
+    reason-bind (first_read opening.own.negotiates (own_list opening.own) token) _ (first-reasoned opening.own.negotiates (own_list opening.own) token) (opened-reasoned (length token) opening)
 step-reasoned (ends.Talks talking) token = reason-bind (resp_read token) _ (resp_read-reasoned token) (talked-reasoned (length token) talking)
 step-reasoned (ends.Signed signed) token = reason-bind (last_read token) _ (last-reasoned token) (closed-reasoned signed)
 

@@ -30,7 +30,7 @@ use Rattle.spnego_core.specs.EndSteps.{StepSays}
 use Rattle.spnego_core.specs.EndSteps as steps
 use Rattle.spnego_core.specs.Outcome.{outcome_of}
 use Rattle.spnego_core.specs.Steps.{◌>>=◌, due, or_refuse}
-use Rattle.spnego_core.specs.Tokens.{rejects, says_completed, resp_read, last_read, resp_octets}
+use Rattle.spnego_core.specs.Tokens.{rejects, says_completed, first_read, resp_read, last_read, resp_octets}
 use Rattle.spnego_core.specs.ListMic.{is_list_mic, mic_making, mic_found}
 use Rattle.spnego_core.specs.Choice.{is_first, same_kind}
 use Rattle.spnego_core.specs.InitMech.{kind_of, kinds_of, cred_for, ticket_for, request_begun, text_begun, init_begun, reply_answered, text_answered, final_answered, init_taken}
@@ -402,7 +402,7 @@ closed-law signed resp good =
 
 step-law : (old : EndSays) (token : List ℕ) → GoodInit old → On (InitLaw old) (init_step old token)
 step-law (ends.Opens opening) token good =
-    on-bind (InitLaw (ends.Opens opening)) (resp_read token) (opened (length token) opening) (λ resp. opened-law (length token) opening resp good)
+    on-bind (InitLaw (ends.Opens opening)) (first_read opening.own.negotiates (own_list opening.own) token) (opened (length token) opening) (λ resp. opened-law (length token) opening resp good)
 step-law (ends.Talks talking) token good =
     on-bind (InitLaw (ends.Talks talking)) (resp_read token) (talked (length token) talking) (λ resp. talked-law (length token) talking resp good)
 step-law (ends.Signed signed) token good =

@@ -3,6 +3,7 @@ pub mod Requests
 pub mod InitSteps
 pub mod AcceptSteps
 pub mod Listed
+pub mod Bares
 pub mod Sizes
 pub mod ReadBack
 pub mod Short

@@ -1,5 +1,5 @@
 -- An honest pair.
-use Rattle.std.proofs.Common.{◌≡◌, ℕ, true, false, List, length, Option, Ok, refl, ap}
+use Rattle.std.proofs.Common.{◌≡◌, ℕ, true, false, List, [], ◌∷◌, length, Option, Ok, refl, ap}
 use Rattle.gss_base.specs.declared.mech.MechKind.TheVariants.{Kerberos}
 use Rattle.krb_tokens.specs.declared.end.Side.TheVariants.{Initiator, Acceptor}
 use Rattle.krb_tokens.proofs.Taken.{mic-taken}
@@ -22,19 +22,22 @@ use Rattle.spnego_core.specs.declared.setup.AcceptSetup.{AcceptSetup}
 use Rattle.spnego_core.specs.declared.accept_end.AcceptEnd.TheVariants as accepts
 use Rattle.spnego_core.specs.declared.accept_end.AcceptPause.{AcceptPause}
 use Rattle.spnego_core.specs.declared.accept_end.AcceptStep.TheVariants as accepted
-use Rattle.spnego_core.specs.declared.accept_end.Turn.TheVariants.{First}
+use Rattle.spnego_core.specs.declared.accept_end.Turn.TheVariants.{First, Bare}
 use Rattle.spnego_core.specs.Ends.{PlainSetup}
 use Rattle.spnego_core.specs.Ends as inits
 use Rattle.spnego_core.specs.EndSteps as initiated
 use Rattle.spnego_core.specs.Outcome.{outcome_of, token_end}
 use Rattle.spnego_core.specs.ListMic.{list_mic, is_list_mic}
+use Rattle.gss_base.specs.Mech.{oid_of}
 use Rattle.spnego_core.specs.Choice.{is_first}
+use Rattle.spnego_core.specs.Bare.{takes_bare}
 use Rattle.spnego_core.specs.Tokens.{init_read, resp_read, init_octets, resp_octets}
 use Rattle.spnego_core.specs.AcceptMech.{accept_taken}
 use Rattle.spnego_core.specs.InitMech.{init_begun, init_taken}
 use Rattle.spnego_core.specs.Accepting as accepting
 use Rattle.spnego_core.specs.Initiating as initiating
-use Rattle.spnego_core.specs.PairLaws.{setup_with, Pair, first_token, opening_end, pair_outcome, plain_reply, signed_reply, DoneAtOnce, DoneAfterMics}
+use Rattle.spnego_core.proofs.Bares.{init-unbare, request-bare, takes-first}
+use Rattle.spnego_core.specs.PairLaws.{setup_with, bare_setup, bare_end, Pair, first_token, opening_end, pair_outcome, plain_reply, signed_reply, DoneAtOnce, DoneAfterMics}
 
 pub init_again : (init : NegInit) → neg_init.fits init ≡ true → init_read (init_octets init) ≡ Ok init
 unfolding init_read init_octets
@@ -73,6 +76,7 @@ asks : (setup : AcceptSetup) (now : ℕ) (drawn : List ℕ) (credential : Grante
 unfolding accepting.begins accept_taken
 asks setup now drawn credential stamp draws bindings pair fits =
     rw (
+      init-unbare setup (initiating.first_sent (setup_with credential stamp draws bindings) (request_token credential stamp draws bindings)) fits,
       init_again (initiating.first_sent (setup_with credential stamp draws bindings) (request_token credential stamp draws bindings)) fits,
       pair.offers,
       honest_request setup.keytab setup.own now setup.bindings credential stamp draws bindings pair.draws_long pair.requests pair.fit,
@@ -120,4 +124,41 @@ after_mics setup now drawn credential stamp draws bindings pair other sent repli
       lasts = j.ends;
       closes = λ later others. rw (resp_again (initiating.mic_sent mic) signed, initiators_mic outcome list) refl;
       ends = refl;
+    }
+
+-- ---- without negotiation
+
+pub bare_begins : (setup : AcceptSetup) (now : ℕ) (drawn : List ℕ) (credential : Granted) (stamp : ℕ) (draws : List ℕ) (bindings : Option (List ℕ)) → Pair setup now drawn credential stamp draws bindings → initiating.sent_of (initiating.init_start (bare_setup credential stamp draws bindings)) ≡ Ok (bare_end credential stamp draws bindings, request_token credential stamp draws bindings)
+unfolding init_begun request_of
+bare_begins setup now drawn credential stamp draws bindings pair = rw pair.fit.is_ticket refl
+
+-- the pause of the acceptor
+abbrev bare_pause : AcceptSetup → Judged → List ℕ → AcceptPause
+bare_pause setup j drawn = record {
+  mark = judged_mark j;
+  after = accepting.finished Bare (accepting.begun setup (oid_of Kerberos ∷ []) Kerberos).chosen (pair_outcome j drawn) j.ends (answer_token j drawn);
+}
+
+bare_asks : (setup : AcceptSetup) (now : ℕ) (drawn : List ℕ) (credential : Granted) (stamp : ℕ) (draws : List ℕ) (bindings : Option (List ℕ)) → (pair : Pair setup now drawn credential stamp draws bindings) → takes_bare setup ≡ true
+    → accepting.step_of (accepting.accept_step setup accepts.New (request_token credential stamp draws bindings) now drawn) ≡ Ok (accepted.WantsAuth (bare_pause setup (honest_judged credential stamp bindings pair.fit.part) drawn))
+unfolding accept_taken
+bare_asks setup now drawn credential stamp draws bindings pair takes =
+    rw (
+      request-bare setup credential stamp draws bindings pair.requests takes,
+      honest_request setup.keytab setup.own now setup.bindings credential stamp draws bindings pair.draws_long pair.requests pair.fit,
+    ) refl
+
+pub bare : (setup : AcceptSetup) (now : ℕ) (drawn : List ℕ) (credential : Granted) (stamp : ℕ) (draws : List ℕ) (bindings : Option (List ℕ)) → (pair : Pair setup now drawn credential stamp draws bindings) → takes_bare setup ≡ true
+    → DoneAtOnce setup now drawn (bare_end credential stamp draws bindings) (request_token credential stamp draws bindings) (pair_outcome (honest_judged credential stamp bindings pair.fit.part) drawn)
+unfolding initiating.opened initiating.picks initiating.run init_taken
+bare setup now drawn credential stamp draws bindings pair takes =
+    let j : Judged = honest_judged credential stamp bindings pair.fit.part in
+    let taken = honest_reply credential stamp draws bindings pair.fit.part drawn pair.drawn_long pair.answers in
+    record {
+      pause = bare_pause setup j drawn;
+      asks = bare_asks setup now drawn credential stamp draws bindings pair takes;
+      lasts = j.ends;
+      reply = answer_token j drawn;
+      goes_on = rw (takes-first setup takes) refl;
+      takes = rw taken.1 (ap (λ (o : Outcome). Ok (initiated.Done o)) (one_outcome taken.0 (answer_done j drawn) taken.2));
     }

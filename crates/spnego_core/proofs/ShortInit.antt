@@ -1,5 +1,5 @@
 -- The tokens of an initiator are short.
-use Rattle.std.proofs.Common.{◌≡◌, ℕ, ◌≤◌, true, sym, subst, arith, List, [], ◌∷◌, length, map, Option, Result, Ok, Err}
+use Rattle.std.proofs.Common.{◌≡◌, ℕ, ◌≤◌, Bool, true, false, sym, subst, arith, List, [], ◌∷◌, length, map, Option, Result, Ok, Err}
 use Rattle.gss_base.specs.declared.mech.KerberosName.TheVariants.{Standard, Microsoft}
 use Rattle.gss_base.specs.declared.mech.MechName.{MechName}
 use Rattle.gss_base.specs.declared.mech.MechName.TheVariants as names
@@ -16,7 +16,7 @@ use Rattle.ap_exchange.specs.Request.{request_token, request_of, RequestFits}
 use Rattle.spnego_core.specs.declared.outcome.Outcome.{Outcome}
 use Rattle.spnego_core.specs.declared.setup.MechCred.{MechCred}
 use Rattle.spnego_core.specs.Ends.{PlainSetup}
-use Rattle.spnego_core.specs.Tokens.{init_octets, resp_octets}
+use Rattle.spnego_core.specs.Tokens.{init_octets, first_octets, resp_octets}
 use Rattle.spnego_core.specs.ListMic.{list_mic}
 use Rattle.spnego_core.specs.InitMech.{name_of, oid_listed, is_own_list}
 use Rattle.spnego_core.specs.Initiating.{first_sent, token_sent, mic_sent}
@@ -63,6 +63,11 @@ first_short own token list h =
     (both (element_within 0xa2 (string_within token sent))
     (both none none)))))))) in
     omega (arith, all.most)
+
+-- by whether the initiator negotiates
+pub opening_short : (negotiates : Bool) (own : PlainSetup) (token : List ℕ) → is_own_list own.list ≡ true → FitsBeside token → IsShort (first_octets negotiates (first_sent own token))
+opening_short true own token list h = first_short own token list h
+opening_short false own token list h = omega (arith, h)
 
 pub if_short : {E : Type 0} (r : Result (List ℕ) E) (token : List ℕ) → IfOk r (λ o. o ≡ token) → IsShort token → IfOk r IsShort
 if_short (Ok o) token e h = subst IsShort (sym e) h

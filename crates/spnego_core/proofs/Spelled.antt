@@ -20,7 +20,9 @@ use Rattle.spnego_msgs.specs.NegInit.{spnego_identifier, neg_init}
 use Rattle.spnego_msgs.specs.Lists.{mech_types, is_count}
 use Rattle.spnego_core.specs.declared.setup.MechCred.{MechCred}
 use Rattle.spnego_core.specs.declared.accept_end.Turn.{Turn}
-use Rattle.spnego_core.specs.declared.accept_end.Turn.TheVariants.{First, Later}
+use Rattle.spnego_core.specs.declared.accept_end.Turn.TheVariants.{First, Later, Bare}
+use Rattle.spnego_core.specs.declared.setup.AcceptSetup.{AcceptSetup}
+use Rattle.spnego_core.specs.Bare.{bare_oid}
 use Rattle.spnego_core.specs.Ends.{PlainSetup}
 use Rattle.spnego_core.specs.Sizes.{IsShort}
 use Rattle.spnego_core.specs.Tokens.{init_read, init_octets, resp_read, resp_octets}
@@ -32,6 +34,7 @@ use Rattle.spnego_core.proofs.Sizes.{Within}
 use Rattle.spnego_core.proofs.Listed.{listed-named, listed-few}
 use Rattle.spnego_core.proofs.Short.{resp_within, named_within, some-is, none-is}
 use Rattle.spnego_core.proofs.Pairs.{init_again, resp_again}
+use Rattle.spnego_core.proofs.Bares.{init-unbare}
 
 -- what the octets spell fits, unless they are too many
 record Sized (octets : List ℕ) (fits : Bool) : Type 0 where
@@ -101,6 +104,7 @@ named_oid names.Scram = refl
 said_oid : (turn : Turn) (list : List (List ℕ)) (kind : MechKind) (v : List ℕ) → mech_said turn (listed_as list kind) ≡ Some v → is_oid v ≡ true
 said_oid First list kind v e = let same : listed_as list kind ≡ v = cc in subst (λ (oid : List ℕ). is_oid oid ≡ true) same (subst (λ (oid : List ℕ). is_oid oid ≡ true) (sym (listed-named list kind).is) (named_oid (listed-named list kind).name))
 said_oid Later list kind v e = absurd (let f : None ≡ Some v = e in cc)
+said_oid Bare list kind v e = absurd (let f : None ≡ Some v = e in cc)
 
 no_mech : (v : List ℕ) → None ≡ Some v → is_oid v ≡ true
 no_mech v e = absurd (let f : None ≡ Some v = e in cc)
@@ -110,7 +114,7 @@ said_within turn list kind v e = named_within turn (listed_as list kind) v (omeg
 
 -- a reply of an acceptor is read
 pub reply_reads : (turn : Turn) (list : List (List ℕ)) (kind : MechKind) (owes finished : Bool) (token mic : Option (List ℕ)) → ((v : List ℕ) → token ≡ Some v → Within v 65000) → ((v : List ℕ) → mic ≡ Some v → Within v 28)
-    → resp_read (reply turn (listed_as list kind) owes finished token mic) ≡ Ok (reply_with turn (listed_as list kind) owes finished token mic)
+    → resp_read (resp_octets (reply_with turn (listed_as list kind) owes finished token mic)) ≡ Ok (reply_with turn (listed_as list kind) owes finished token mic)
 reply_reads turn list kind owes finished token mic t m =
     let resp : NegResp = reply_with turn (listed_as list kind) owes finished token mic in
     resp_again resp ((resp_sized resp (said_oid turn list kind)).holds (omega (arith, (resp_within resp 65000 (said_within turn list kind) t m).most)))
@@ -157,6 +161,10 @@ init_sized own token e =
     (both_sized none_sized
     (both_sized (element_sized 0xa2 (string_sized token))
     (both_sized none_sized none_sized)))))))
+
+-- it is no request alone
+pub init_asks : (setup : AcceptSetup) (own : PlainSetup) (token : List ℕ) → is_own_list own.list ≡ true → IsShort (init_octets (first_sent own token)) → bare_oid setup (init_octets (first_sent own token)) ≡ None
+init_asks setup own token e h = init-unbare setup (first_sent own token) ((init_sized own token e).holds (omega (arith, h)))
 
 pub init_reads : (own : PlainSetup) (token : List ℕ) → is_own_list own.list ≡ true → IsShort (init_octets (first_sent own token)) → init_read (init_octets (first_sent own token)) ≡ Ok (first_sent own token)
 init_reads own token e h = init_again (first_sent own token) ((init_sized own token e).holds (omega (arith, h)))

@@ -1,16 +1,22 @@
 -- Single messages of an honest exchange.
 use Rattle.std.proofs.Common.{◌≡◌, ℕ, ◌≤◌, Bool, true, false, if◌then◌else◌, refl, ap, arith, List, [], ◌∷◌, length, Option, Some, None, Ok}
 use Rattle.gss_base.specs.declared.mech.MechKind.{MechKind}
+use Rattle.gss_base.specs.declared.mech.MechKind.TheVariants.{Kerberos}
+use Rattle.gss_base.specs.declared.mech.KerberosName.TheVariants.{Standard}
+use Rattle.krb_files.specs.Granted.{Granted}
+use Rattle.ap_exchange.specs.Request.{request_token, RequestFits}
 use Rattle.krb_tokens.specs.declared.end.Side.TheVariants.{Initiator, Acceptor}
 use Rattle.spnego_core.specs.declared.outcome.Outcome.{Outcome}
 use Rattle.spnego_core.specs.declared.setup.AcceptSetup.{AcceptSetup}
 use Rattle.spnego_core.specs.declared.setup.MechCred.{MechCred}
+use Rattle.spnego_core.specs.declared.setup.MechCred.TheVariants as creds
 use Rattle.spnego_core.specs.MechStates.{InitMech}
 use Rattle.spnego_core.specs.MechStates as tells
 use Rattle.spnego_core.specs.declared.accept_mech.AcceptMech.{AcceptMech}
+use Rattle.spnego_core.specs.declared.accept_mech.AcceptMech.TheVariants as mechs
 use Rattle.spnego_core.specs.declared.accept_mech.AcceptAnswer.TheVariants as answers
 use Rattle.spnego_core.specs.declared.accept_end.Turn.{Turn}
-use Rattle.spnego_core.specs.declared.accept_end.Turn.TheVariants.{First, Later}
+use Rattle.spnego_core.specs.declared.accept_end.Turn.TheVariants.{First, Later, Bare}
 use Rattle.spnego_core.specs.declared.accept_end.Chosen.{Chosen}
 use Rattle.spnego_core.specs.declared.accept_end.AcceptEnd.{AcceptEnd}
 use Rattle.spnego_core.specs.declared.accept_end.AcceptEnd.TheVariants as accepts
@@ -21,6 +27,7 @@ use Rattle.spnego_core.specs.Ends as inits
 use Rattle.spnego_core.specs.EndSteps as initiated
 use Rattle.spnego_core.specs.ListMic.{list_mic}
 use Rattle.spnego_core.specs.Choice.{is_first, is_first_named, best, listed_as}
+use Rattle.spnego_core.specs.Bare.{takes_bare}
 use Rattle.spnego_core.specs.Tokens.{init_octets, resp_octets}
 use Rattle.spnego_core.specs.AcceptMech.{MechTaken, accept_begun, accept_taken}
 use Rattle.spnego_core.specs.InitMech.{kinds_of, is_own, is_own_list, cred_for, MechBegun, init_begun, MechReplied, init_taken}
@@ -32,7 +39,8 @@ use Rattle.spnego_core.proofs.Listed.{listed-back}
 use Rattle.spnego_core.proofs.Sizes.{Within}
 use Rattle.spnego_core.proofs.Short.{some-is, none-is, list_mic_within}
 use Rattle.spnego_core.proofs.Pairs.{acceptors_mic, initiators_mic}
-use Rattle.spnego_core.proofs.Spelled.{reply_reads, token_reads, token_short, mic_reads, mic_short, init_reads}
+use Rattle.spnego_core.proofs.Bares.{request-bare, takes-first}
+use Rattle.spnego_core.proofs.Spelled.{reply_reads, token_reads, token_short, mic_reads, mic_short, init_asks, init_reads}
 
 -- what both know once the mechanism was chosen; whether the MIC is due is said by the first reply
 abbrev pub talk_on : PlainSetup → MechKind → Bool → TalkSays
@@ -45,11 +53,13 @@ chosen_on own kind due = record { received = initiating.own_list own; kind = kin
 abbrev pub end_at : Turn → PlainSetup → MechKind → Bool → InitMech → EndSays
 end_at First own kind due mech = inits.Opens (record { own = own; mech = mech })
 end_at Later own kind due mech = inits.Talks (record { talk = talk_on own kind due; mech = mech })
+end_at Bare own kind due mech = inits.Opens (record { own = own; mech = mech })
 
--- a first reply that carries on a mechanism is for the own first one
+-- a first reply that carries on a mechanism is for the own first one; both ends negotiate
 abbrev pub MayCome : Turn → PlainSetup → MechKind → Type 0
-MayCome First own kind = is_first (kinds_of own.list) kind ≡ true
+MayCome First own kind = (own.negotiates ≡ true) × (is_first (kinds_of own.list) kind ≡ true)
 MayCome Later own kind = Unit {0}
+MayCome Bare own kind = ⊥
 
 -- the mechanism as the acceptor names it: as the own list has it
 abbrev pub oid_on : PlainSetup → MechKind → List ℕ
@@ -60,20 +70,20 @@ one_within octets n h v e = some-is octets v n (record { most = h }) e
 
 -- ---- the initiator takes a reply
 
-takes_first : (own : PlainSetup) (kind : MechKind) (due finished : Bool) (mech : InitMech) (token : List ℕ) (mic : Option (List ℕ)) → is_own own.list kind ≡ true → is_first (kinds_of own.list) kind ≡ true → length token ≤ 65000 → ((v : List ℕ) → mic ≡ Some v → Within v 28)
+takes_first : (own : PlainSetup) (kind : MechKind) (due finished : Bool) (mech : InitMech) (token : List ℕ) (mic : Option (List ℕ)) → is_own own.list kind ≡ true → own.negotiates ≡ true → is_first (kinds_of own.list) kind ≡ true → length token ≤ 65000 → ((v : List ℕ) → mic ≡ Some v → Within v 28)
     → initiating.init_step (inits.Opens (record { own = own; mech = mech })) (accepting.reply First (oid_on own kind) due finished (Some token) mic)
-    ≡ initiating.ran (talk_on own kind due) (Some (accepting.state_said First due finished)) mic (init_taken mech token)
+    ≡ initiating.ran (talk_on own kind due) (accepting.state_said First due finished) mic (init_taken mech token)
 unfolding initiating.opened initiating.picks initiating.run
-takes_first own kind true finished mech token mic is first few m =
-    rw (reply_reads First (initiating.own_list own) kind true finished (Some token) mic (one_within token 65000 few) m, listed-back (initiating.own_list own) kind, is, first) refl
-takes_first own kind false true mech token mic is first few m =
-    rw (reply_reads First (initiating.own_list own) kind false true (Some token) mic (one_within token 65000 few) m, listed-back (initiating.own_list own) kind, is, first) refl
-takes_first own kind false false mech token mic is first few m =
-    rw (reply_reads First (initiating.own_list own) kind false false (Some token) mic (one_within token 65000 few) m, listed-back (initiating.own_list own) kind, is, first) refl
+takes_first own kind true finished mech token mic is negotiates first few m =
+    rw (negotiates, reply_reads First (initiating.own_list own) kind true finished (Some token) mic (one_within token 65000 few) m, listed-back (initiating.own_list own) kind, is, first) refl
+takes_first own kind false true mech token mic is negotiates first few m =
+    rw (negotiates, reply_reads First (initiating.own_list own) kind false true (Some token) mic (one_within token 65000 few) m, listed-back (initiating.own_list own) kind, is, first) refl
+takes_first own kind false false mech token mic is negotiates first few m =
+    rw (negotiates, reply_reads First (initiating.own_list own) kind false false (Some token) mic (one_within token 65000 few) m, listed-back (initiating.own_list own) kind, is, first) refl
 
 takes_later : (own : PlainSetup) (kind : MechKind) (due finished : Bool) (mech : InitMech) (token : List ℕ) (mic : Option (List ℕ)) → length token ≤ 65000 → ((v : List ℕ) → mic ≡ Some v → Within v 28)
     → initiating.init_step (inits.Talks (record { talk = talk_on own kind due; mech = mech })) (accepting.reply Later (oid_on own kind) due finished (Some token) mic)
-    ≡ initiating.ran (talk_on own kind due) (Some (accepting.state_said Later due finished)) mic (init_taken mech token)
+    ≡ initiating.ran (talk_on own kind due) (accepting.state_said Later due finished) mic (init_taken mech token)
 unfolding initiating.talked initiating.run
 takes_later own kind true finished mech token mic few m = rw (reply_reads Later (initiating.own_list own) kind true finished (Some token) mic (one_within token 65000 few) m) refl
 takes_later own kind false true mech token mic few m = rw (reply_reads Later (initiating.own_list own) kind false true (Some token) mic (one_within token 65000 few) m) refl
@@ -81,24 +91,27 @@ takes_later own kind false false mech token mic few m = rw (reply_reads Later (i
 
 takes : (turn : Turn) (own : PlainSetup) (kind : MechKind) (due finished : Bool) (mech : InitMech) (token : List ℕ) (mic : Option (List ℕ)) → is_own own.list kind ≡ true → MayCome turn own kind → length token ≤ 65000 → ((v : List ℕ) → mic ≡ Some v → Within v 28)
     → initiating.init_step (end_at turn own kind due mech) (accepting.reply turn (oid_on own kind) due finished (Some token) mic)
-    ≡ initiating.ran (talk_on own kind due) (Some (accepting.state_said turn due finished)) mic (init_taken mech token)
-takes First own kind due finished mech token mic is may few m = takes_first own kind due finished mech token mic is may few m
+    ≡ initiating.ran (talk_on own kind due) (accepting.state_said turn due finished) mic (init_taken mech token)
+takes First own kind due finished mech token mic is may few m = takes_first own kind due finished mech token mic is may.0 may.1 few m
 takes Later own kind due finished mech token mic is may few m = takes_later own kind due finished mech token mic few m
+takes Bare own kind due finished mech token mic is may few m = absurd may
 
 -- the mechanism goes on
 goes_on : (turn : Turn) (due : Bool) (talk : TalkSays) (taken : MechReplied) (mech : InitMech) (further : List ℕ) → taken.answer ≡ tells.More mech further
-    → initiating.step_of (initiating.ran talk (Some (accepting.state_said turn due false)) None (Ok taken))
+    → initiating.step_of (initiating.ran talk (accepting.state_said turn due false) None (Ok taken))
     ≡ Ok (initiated.More (inits.Talks (record { talk = talk; mech = mech })) (resp_octets (initiating.token_sent further)))
 goes_on First true talk taken mech further e = rw e refl
 goes_on First false talk taken mech further e = rw e refl
 goes_on Later true talk taken mech further e = rw e refl
 goes_on Later false talk taken mech further e = rw e refl
+goes_on Bare due talk taken mech further e = rw e refl
 
 -- the mechanism is done, and the MICs aren't due
 ends_plain : (turn : Turn) (own : PlainSetup) (kind : MechKind) (taken : MechReplied) (outcome : Outcome) → is_first (kinds_of own.list) kind ≡ true → taken.answer ≡ tells.Done outcome
-    → initiating.step_of (initiating.ran (talk_on own kind false) (Some (accepting.state_said turn false true)) None (Ok taken)) ≡ Ok (initiated.Done outcome)
+    → initiating.step_of (initiating.ran (talk_on own kind false) (accepting.state_said turn false true) None (Ok taken)) ≡ Ok (initiated.Done outcome)
 ends_plain First own kind taken outcome first e = rw (e, first) refl
 ends_plain Later own kind taken outcome first e = rw (e, first) refl
+ends_plain Bare own kind taken outcome first e = rw (e, first) refl
 
 -- the end once the own MIC was sent
 abbrev pub signed_on : PlainSetup → MechKind → Outcome → EndSays
@@ -109,18 +122,19 @@ last_mic own outcome = resp_octets (initiating.mic_sent (list_mic outcome Initia
 
 -- the mechanism is done, and the acceptor's MIC is there
 ends_signed : (turn : Turn) (own : PlainSetup) (kind : MechKind) (taken : MechReplied) (outcome : Outcome) → taken.answer ≡ tells.Done outcome
-    → initiating.step_of (initiating.ran (talk_on own kind true) (Some (accepting.state_said turn true true)) (Some (list_mic outcome Acceptor (initiating.own_list own))) (Ok taken))
+    → initiating.step_of (initiating.ran (talk_on own kind true) (accepting.state_said turn true true) (Some (list_mic outcome Acceptor (initiating.own_list own))) (Ok taken))
     ≡ Ok (initiated.More (signed_on own kind outcome) (last_mic own outcome))
 ends_signed First own kind taken outcome e = rw (e, acceptors_mic outcome (initiating.own_list own)) refl
 ends_signed Later own kind taken outcome e = rw (e, acceptors_mic outcome (initiating.own_list own)) refl
+ends_signed Bare own kind taken outcome e = rw (e, acceptors_mic outcome (initiating.own_list own)) refl
 
 -- another mechanism than the own first was chosen
-pub switches : (own : PlainSetup) (kind : MechKind) (mech : InitMech) (cred : MechCred) (begun : MechBegun) → is_own own.list kind ≡ true → is_first (kinds_of own.list) kind ≡ false → cred_for own.list kind ≡ Some cred → init_begun own cred ≡ Ok begun
+pub switches : (own : PlainSetup) (kind : MechKind) (mech : InitMech) (cred : MechCred) (begun : MechBegun) → own.negotiates ≡ true → is_own own.list kind ≡ true → is_first (kinds_of own.list) kind ≡ false → cred_for own.list kind ≡ Some cred → init_begun own cred ≡ Ok begun
     → initiating.step_of (initiating.init_step (inits.Opens (record { own = own; mech = mech })) (accepting.reply First (oid_on own kind) true false None None))
     ≡ Ok (initiated.More (end_at Later own kind true begun.mech) (resp_octets (initiating.token_sent begun.token)))
-unfolding initiating.opened initiating.picks
-switches own kind mech cred begun is other cred_is begins =
-    rw (reply_reads First (initiating.own_list own) kind true false None None (λ v e. none-is v 65000 e) (λ v e. none-is v 28 e), listed-back (initiating.own_list own) kind, is, other, cred_is, begins) refl
+unfolding initiating.opened initiating.picks init_begun resp_octets
+switches own kind mech cred begun negotiates is other cred_is begins =
+    rw (negotiates, reply_reads First (initiating.own_list own) kind true false None None (λ v e. none-is v 65000 e) (λ v e. none-is v 28 e), listed-back (initiating.own_list own) kind, is, other, cred_is, begins) refl
 
 -- ---- the acceptor hears a token
 
@@ -133,7 +147,7 @@ Hears setup end octets turn chosen mech token =
 pub hears_first : (setup : AcceptSetup) (own : PlainSetup) (kind : MechKind) (token : List ℕ) → is_own_list own.list ≡ true → IsShort (init_octets (initiating.first_sent own token)) → best setup.offer (initiating.own_list own) ≡ Some kind → is_first_named (initiating.own_list own) kind ≡ true
     → Hears setup accepts.New (init_octets (initiating.first_sent own token)) First (accepting.begun setup (initiating.own_list own) kind).chosen (accept_begun kind) token
 unfolding accepting.begins
-hears_first setup own kind token list short chosen first now drawn = rw (init_reads own token list short, chosen, first) refl
+hears_first setup own kind token list short chosen first now drawn = rw (init_asks setup own token list short, init_reads own token list short, chosen, first) refl
 
 -- a later token
 pub hears_later : (setup : AcceptSetup) (chosen : Chosen) (mech : AcceptMech) (token : List ℕ) → IsShort (resp_octets (initiating.token_sent token))
@@ -146,7 +160,7 @@ pub waits : (setup : AcceptSetup) (own : PlainSetup) (kind : MechKind) (token : 
     → answered_on setup occasion accepts.New (init_octets (initiating.first_sent own token))
     ≡ Ok (accepted.More (accepts.Runs (record { chosen = chosen_on own kind true; mech = accept_begun kind })) (accepting.reply First (oid_on own kind) true false None None))
 unfolding accepting.begins
-waits setup own kind token occasion list short chosen other = rw (init_reads own token list short, chosen, other) refl
+waits setup own kind token occasion list short chosen other = rw (init_asks setup own token list short, init_reads own token list short, chosen, other) refl
 
 -- ---- the MICs
 
@@ -250,3 +264,23 @@ ends_all setup own kind true turn end octets mech own_mech token outcome occasio
       closes setup own kind outcome r.lasts last,
     )
 ends_all setup own kind true turn end octets mech own_mech token outcome occasion (last ∷ more ∷ rest) first is may hears r count = absurd (omega (arith, count))
+
+-- ---- without negotiation
+
+-- a request alone
+pub hears_bare : (setup : AcceptSetup) (own : PlainSetup) (credential : Granted) → own.list ≡ creds.Kerberos Standard credential ∷ [] → RequestFits credential own.stamp own.draws own.bindings → takes_bare setup ≡ true
+    → Hears setup accepts.New (request_token credential own.stamp own.draws own.bindings) Bare (chosen_on own Kerberos false) mechs.Kerberos (request_token credential own.stamp own.draws own.bindings)
+hears_bare setup own credential list made takes now drawn =
+    rw (list, request-bare setup credential own.stamp own.draws own.bindings made takes, takes-first setup takes) refl
+
+-- the one round, after which both are done
+pub ends_bare : (setup : AcceptSetup) (own : PlainSetup) (credential : Granted) (octets : List ℕ) (own_mech : InitMech) (token : List ℕ) (outcome : Outcome) (occasion : Occasion) → own.negotiates ≡ false → own.list ≡ creds.Kerberos Standard credential ∷ []
+    → Hears setup accepts.New octets Bare (chosen_on own Kerberos false) mechs.Kerberos token → LastRound setup occasion mechs.Kerberos own_mech token outcome
+    → IsDone setup occasion accepts.New (inits.Opens (record { own = own; mech = own_mech })) octets outcome
+unfolding initiating.opened initiating.picks initiating.run
+ends_bare setup own credential octets own_mech token outcome occasion negotiates list hears r = record {
+  reply = r.last;
+  lasts = r.lasts;
+  accepts = last_answered setup accepts.New octets Bare (chosen_on own Kerberos false) mechs.Kerberos token own_mech outcome occasion hears r;
+  initiates = rw (negotiates, list, r.replies, r.done) refl;
+}

@@ -3,6 +3,7 @@
 use Rattle.std.specs.Prelude.{ℕ, Bool, true, false, not, if◌then◌else◌, List, [], ◌∷◌}
 use Rattle.std.specs.Prelude.{◌++◌, length, Option, Some, None, option_map, Result, Ok, Err}
 use Rattle.gss_base.specs.declared.mech.MechKind.{MechKind}
+use Rattle.gss_base.specs.declared.mech.MechKind.TheVariants.{Kerberos}
 use Rattle.gss_base.specs.declared.mark.Mark.{Mark}
 use Rattle.krb_tokens.specs.declared.end.Side.TheVariants.{Acceptor}
 use Rattle.spnego_msgs.specs.declared.neg_state.NegState.{NegState}
@@ -19,10 +20,11 @@ use Rattle.spnego_core.specs.declared.refusal.NegRefusal.TheVariants.{MicBad, Me
 use Rattle.spnego_core.specs.declared.refusal.MechRefusal.{MechRefusal}
 use Rattle.spnego_core.specs.declared.setup.AcceptSetup.{AcceptSetup}
 use Rattle.spnego_core.specs.declared.accept_mech.AcceptMech.{AcceptMech}
+use Rattle.spnego_core.specs.declared.accept_mech.AcceptMech.TheVariants as mechs
 use Rattle.spnego_core.specs.declared.accept_mech.AcceptAnswer.{AcceptAnswer}
 use Rattle.spnego_core.specs.declared.accept_mech.AcceptAnswer.TheVariants as answers
 use Rattle.spnego_core.specs.declared.accept_end.Turn.{Turn}
-use Rattle.spnego_core.specs.declared.accept_end.Turn.TheVariants.{First, Later}
+use Rattle.spnego_core.specs.declared.accept_end.Turn.TheVariants.{First, Later, Bare}
 use Rattle.spnego_core.specs.declared.accept_end.Chosen.{Chosen}
 use Rattle.spnego_core.specs.declared.accept_end.Running.{Running}
 use Rattle.spnego_core.specs.declared.accept_end.Owing.{Owing}
@@ -34,9 +36,11 @@ use Rattle.spnego_core.specs.declared.accept_end.AcceptPause.{AcceptPause}
 use Rattle.spnego_core.specs.declared.accept_end.AcceptStep.{AcceptStep}
 use Rattle.spnego_core.specs.declared.accept_end.AcceptStep.TheVariants as steps
 use Rattle.spnego_core.specs.Steps.{◌>>=◌, due, or_refuse}
-use Rattle.spnego_core.specs.Tokens.{init_read, resp_read, resp_octets, rejects}
+use Rattle.spnego_core.specs.Tokens.{init_read, resp_read, alone, resp_octets, last_octets}
+use Rattle.spnego_core.specs.Tokens.{rejects}
 use Rattle.spnego_core.specs.ListMic.{list_mic, is_list_mic, mic_making, mic_found}
 use Rattle.spnego_core.specs.Choice.{is_first_named, best, listed_as, is_mic_due}
+use Rattle.spnego_core.specs.Bare.{bare_oid}
 use Rattle.spnego_core.specs.AcceptMech.{Basis, Built, MechTaken, accept_begun, accept_taken}
 
 -- a context that was fixed: the list that came, the outcome, when it ends, and what it was built on
@@ -61,33 +65,43 @@ step_of (Err refusal) = Err refusal
 
 -- ---- the answer
 
--- what the reply says of the negotiation: the first one, then each later one
-abbrev pub state_said : Turn → Bool → Bool → NegState
+-- what the reply says of the negotiation: the first one, then each later one. Without negotiation
+-- it says nothing of it
+abbrev pub state_said : Turn → Bool → Bool → Option NegState
 state_said First owes finished =
-    if owes then RequestMic else if finished then Completed else Incomplete
+    if owes then Some RequestMic else if finished then Some Completed else Some Incomplete
 state_said Later owes finished =
-    if owes then Incomplete else if finished then Completed else Incomplete
+    if owes then Some Incomplete else if finished then Some Completed else Some Incomplete
+state_said Bare owes finished = None
 
 -- the first reply names the mechanism, by this identifier
 abbrev pub mech_said : Turn → List ℕ → Option (List ℕ)
 mech_said First oid = Some oid
 mech_said Later oid = None
+mech_said Bare oid = None
 
 -- the reply: the turn, the mechanism's identifier, whether the MIC is due, whether the mechanism is
 -- done, its token, the own MIC
 abbrev pub reply_with : Turn → List ℕ → Bool → Bool → Option (List ℕ) → Option (List ℕ) → NegResp
 reply_with turn oid owes finished token mic =
     record {
-      state = Some (state_said turn owes finished);
+      state = state_said turn owes finished;
       mech = mech_said turn oid;
       token =
           token;
       mic = mic;
     }
 
+-- the octets of a reply in its turn: without negotiation the mechanism's token stands alone
+abbrev pub octets_of : Turn → NegResp → List ℕ
+octets_of First resp = resp_octets resp
+octets_of Later resp = resp_octets resp
+octets_of Bare resp = alone resp.token
+
 -- the octets of that reply
 abbrev pub reply : Turn → List ℕ → Bool → Bool → Option (List ℕ) → Option (List ℕ) → List ℕ
-reply turn oid owes finished token mic = resp_octets (reply_with turn oid owes finished token mic)
+reply turn oid owes finished token mic =
+    octets_of turn (reply_with turn oid owes finished token mic)
 
 -- the chosen mechanism is named as the initiator's list has it
 abbrev pub oid_chosen : Chosen → List ℕ
@@ -200,6 +214,15 @@ begins setup now draws init = do
   kind ← or_refuse NoCommonMech (best setup.offer init.list)
   chose setup now draws init.list init.token kind
 
+-- what is made of a first token: one that negotiates; or Kerberos's own, whose list is the one
+-- identifier in its frame
+abbrev pub first_taken : AcceptSetup → ℕ → List ℕ → List ℕ → Option (List ℕ)
+    → Result Accepted NegRefusal
+first_taken setup now draws token None = init_read token >>= begins setup now draws
+first_taken setup now draws token (Some oid) =
+    run Bare (begun setup (oid ∷ []) Kerberos).chosen
+    (accept_taken setup mechs.Kerberos token now draws)
+
 -- ---- later tokens
 
 -- while the mechanism isn't done: the token of so many octets must have one for it, and a MIC is
@@ -211,10 +234,10 @@ proceeds setup now draws size running resp = do
   token ← or_refuse (Defective size) resp.token
   run Later running.chosen (accept_taken setup running.mech token now draws)
 
--- the initiator's MIC over the list that came: nothing more is to be said
-abbrev pub settled : Owing → List ℕ → Accepted
-settled owing mic = record {
-  step = steps.Done owing.outcome owing.lasts [];
+-- the initiator's MIC over the list that came, with this state: its context stands
+abbrev pub settled : Owing → Option NegState → List ℕ → Accepted
+settled owing state mic = record {
+  step = steps.Done owing.outcome owing.lasts (last_octets state);
   makes = [];
   found = mic_found owing.outcome Acceptor owing.received mic ∷ [];
   fixes = None;
@@ -226,7 +249,7 @@ closes owing resp = do
   goes ← due Rejected (not (rejects resp.state))
   mic ← or_refuse MicMissing resp.mic
   right ← due MicBad (is_list_mic owing.outcome Acceptor owing.received mic)
-  Ok (settled owing mic)
+  Ok (settled owing resp.state mic)
 
 -- the same by the token, which is read first
 abbrev pub closed : Owing → List ℕ → Result Accepted NegRefusal
@@ -235,7 +258,8 @@ closed owing token = resp_read token >>= closes owing
 -- ---- the machine: setup, end, token, moment, draws
 -- what an acceptor makes of a token: the first, one for the mechanism, or one with the MIC
 abbrev pub accept_step : AcceptSetup → AcceptEnd → List ℕ → ℕ → List ℕ → Result Accepted NegRefusal
-accept_step setup ends.New token now draws = init_read token >>= begins setup now draws
+accept_step setup ends.New token now draws =
+    first_taken setup now draws token (bare_oid setup token)
 accept_step setup (ends.Runs running) token now draws =
     resp_read token >>= proceeds setup now draws (length token) running
 accept_step setup (ends.Owes owing) token now draws = resp_read token >>= closes owing

@@ -14,6 +14,8 @@ pub record PlainSetup : Type 0 where
   pub bindings : Option (List ℕ)
   pub stamp : ℕ
   pub draws : List ℕ
+  -- it negotiates; else its first token is the mechanism's own
+  pub negotiates : Bool
 
 -- it sent its first token: what it was begun with, and its first mechanism, which runs
 pub record OpeningSays : Type 0 where
@@ -55,6 +57,6 @@ setup_of facts = record {
   list = facts.list;
   bindings = facts.bindings;
   stamp = facts.stamp;
-  draws =
-      facts.draws;
+  draws = facts.draws;
+  negotiates = facts.negotiates;
 }

@@ -1,7 +1,7 @@
 -- An honest exchange: an initiator and an acceptor that have a mechanism in common, whose facts
 -- fit, take each other's tokens in turn, and both are done with one outcome.
-use Rattle.std.specs.Prelude.{◌≡◌, ℕ, ◌+◌, true, if◌then◌else◌, List, [], ◌∷◌, length, Some, Result}
-use Rattle.std.specs.Prelude.{Ok, Err}
+use Rattle.std.specs.Prelude.{◌≡◌, ℕ, ◌+◌, true, false, if◌then◌else◌, List, [], ◌∷◌, length, Some}
+use Rattle.std.specs.Prelude.{Result, Ok, Err}
 use Rattle.std.specs.List.{AllByRecursion}
 use Rattle.gss_base.specs.declared.mech.MechKind.{MechKind}
 use Rattle.gss_base.specs.declared.mech.MechKind.TheVariants as kinds
@@ -24,7 +24,9 @@ use Rattle.spnego_core.specs.declared.accept_end.AcceptStep.TheVariants as accep
 use Rattle.spnego_core.specs.Ends.{PlainSetup, EndSays}
 use Rattle.spnego_core.specs.EndSteps as initiated
 use Rattle.spnego_core.specs.Choice.{is_first, best, is_mic_due}
-use Rattle.spnego_core.specs.InitMech.{kinds_of, is_own_list, cred_for, MechBegun, init_begun}
+use Rattle.spnego_core.specs.Bare.{takes_bare}
+use Rattle.spnego_core.specs.InitMech.{kinds_of, is_own_list, is_bare_list, cred_for, MechBegun}
+use Rattle.spnego_core.specs.InitMech.{init_begun}
 use Rattle.spnego_core.specs.Sizes.{IsShort}
 use Rattle.spnego_core.specs.Tokens.{resp_octets}
 use Rattle.spnego_core.specs.Accepting as accepting
@@ -129,6 +131,11 @@ tokens_of setup own kind =
     (if is_first (kinds_of own.list) kind then 0 else 1) + rounds_of
     kind + (if is_mic_due setup.offer (initiating.own_list own) kind then 1 else 0)
 
+-- an initiator that doesn't negotiate has Kerberos alone, and the acceptor takes its request so
+pub record BareFits (setup : AcceptSetup) (own : PlainSetup) : Type 0 where
+  pub list : is_bare_list own.list ≡ true
+  pub takes : takes_bare setup ≡ true
+
 -- the two lists have a mechanism in common, both it and the initiator's first begin, and the facts
 -- of the chosen one fit on each occasion
 pub record HonestPair (setup : AcceptSetup) (own : PlainSetup) (kind : MechKind)
@@ -150,6 +157,7 @@ pub record HonestPair (setup : AcceptSetup) (own : PlainSetup) (kind : MechKind)
   -- an occasion for each token
   pub counted : length occasions ≡ tokens_of setup own kind
   pub fit : AllByRecursion (Fitting setup own cred) occasions
+  pub bare : own.negotiates ≡ false → BareFits setup own
 
 -- both ends complete by the chosen mechanism, with one outcome
 pub record Agrees (setup : AcceptSetup) (own : PlainSetup) (kind : MechKind)

@@ -1,9 +1,10 @@
 -- What a mechanism makes of a reply at the initiator, and how it begins.
-use Rattle.std.specs.Prelude.{ℕ, Bool, if◌then◌else◌, List, [], ◌∷◌, map}
+use Rattle.std.specs.Prelude.{ℕ, Bool, true, false, if◌then◌else◌, List, [], ◌∷◌, map}
 use Rattle.std.specs.Prelude.{Option, Some, None, Result, Ok, Err}
 use Rattle.std.specs.List.{list_any}
 use Rattle.gss_base.specs.declared.mech.MechKind.{MechKind}
 use Rattle.gss_base.specs.declared.mech.MechKind.TheVariants as kinds
+use Rattle.gss_base.specs.declared.mech.KerberosName.TheVariants.{Standard}
 use Rattle.gss_base.specs.declared.mech.MechName.{MechName}
 use Rattle.gss_base.specs.declared.mech.MechName.TheVariants as names
 use Rattle.gss_base.specs.Mech.{oid_named}
@@ -55,6 +56,12 @@ kinds_of list = map kind_of list
 -- one to three credentials, with different object identifiers
 abbrev pub is_own_list : List MechCred → Bool
 is_own_list list = are_few (map oid_listed list)
+
+-- what the list of an initiator is that doesn't negotiate: one credential of Kerberos, under its
+-- own name, which the frame of its request has
+abbrev pub is_bare_list : List MechCred → Bool
+is_bare_list (creds.Kerberos Standard credential ∷ []) = true
+is_bare_list list = false
 
 -- there is a credential of this mechanism
 abbrev pub is_own : List MechCred → MechKind → Bool

@@ -27,8 +27,8 @@ use Rattle.spnego_core.specs.Ends as ends
 use Rattle.spnego_core.specs.EndSteps.{StepSays}
 use Rattle.spnego_core.specs.EndSteps as steps
 use Rattle.spnego_core.specs.Steps.{◌>>=◌, due, or_refuse}
-use Rattle.spnego_core.specs.Tokens.{init_octets, resp_read, last_read, resp_octets, rejects}
-use Rattle.spnego_core.specs.Tokens.{says_completed, asks_mic}
+use Rattle.spnego_core.specs.Tokens.{first_octets, first_read, resp_read, last_read, resp_octets}
+use Rattle.spnego_core.specs.Tokens.{rejects, says_completed, asks_mic}
 use Rattle.spnego_core.specs.ListMic.{list_mic, is_list_mic, mic_making, mic_found}
 use Rattle.spnego_core.specs.Choice.{is_first, is_kind}
 use Rattle.spnego_core.specs.InitMech.{kinds_of, oid_listed, is_own, cred_for, MechBegun}
@@ -83,12 +83,13 @@ abbrev pub sent_of : Result Started NegRefusal → Result (EndSays × List ℕ) 
 sent_of (Ok started) = Ok (started.end, started.token)
 sent_of (Err refusal) = Err refusal
 
--- the first token by how its mechanism began; the mechanism's refusal is the end's
+-- the first token by how its mechanism began, the mechanism's own where nothing is negotiated; the
+-- mechanism's refusal is the end's
 abbrev pub opens : PlainSetup → Result MechBegun MechRefusal → Result Started NegRefusal
 opens own (Err refusal) = Err (Mech refusal)
 opens own (Ok begun) = Ok (record {
   end = ends.Opens (record { own = own; mech = begun.mech });
-  token = init_octets (first_sent own begun.token);
+  token = first_octets own.negotiates (first_sent own begun.token);
   makes = begun.makes;
 })
 
@@ -299,6 +300,7 @@ closed signed resp = do
 -- ---- the machine: end, token
 -- what an initiator makes of a token: the first reply, a later one, or the one to its MIC
 abbrev pub init_step : EndSays → List ℕ → Result Initiated NegRefusal
-init_step (ends.Opens opening) token = resp_read token >>= opened (length token) opening
+init_step (ends.Opens opening) token =
+    first_read opening.own.negotiates (own_list opening.own) token >>= opened (length token) opening
 init_step (ends.Talks talking) token = resp_read token >>= talked (length token) talking
 init_step (ends.Signed signed) token = last_read token >>= closed signed

@@ -3,6 +3,7 @@ pub mod Steps
 pub mod Tokens
 pub mod ListMic
 pub mod Choice
+pub mod Bare
 pub mod AcceptMech
 pub mod Accepting
 pub mod MechStates

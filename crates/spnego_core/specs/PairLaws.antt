@@ -28,6 +28,7 @@ use Rattle.spnego_core.specs.EndSteps as initiated
 use Rattle.spnego_core.specs.Outcome.{outcome_of}
 use Rattle.spnego_core.specs.ListMic.{list_mic}
 use Rattle.spnego_core.specs.Choice.{is_among, is_first}
+use Rattle.spnego_core.specs.Bare.{takes_bare}
 use Rattle.spnego_core.specs.Tokens.{init_octets}
 use Rattle.spnego_core.specs.Accepting as accepting
 use Rattle.spnego_core.specs.Initiating as initiating
@@ -39,9 +40,14 @@ setup_with credential stamp draws bindings =
       list = creds.Kerberos Standard credential ∷ [];
       bindings = bindings;
       stamp = stamp;
-      draws =
-          draws;
+      draws = draws;
+      negotiates = true;
     }
+
+-- the same of one that doesn't negotiate
+abbrev pub bare_setup : Granted → ℕ → List ℕ → Option (List ℕ) → PlainSetup
+bare_setup credential stamp draws bindings =
+    record (setup_with credential stamp draws bindings) { negotiates = false }
 
 -- the facts of the pair fit, the acceptor offers Kerberos, and all that both write has a spelling
 pub record Pair (setup : AcceptSetup) (now : ℕ) (drawn : List ℕ) (credential : Granted) (stamp : ℕ)
@@ -63,6 +69,13 @@ first_token credential stamp draws bindings =
 abbrev pub opening_end : Granted → ℕ → List ℕ → Option (List ℕ) → EndSays
 opening_end credential stamp draws bindings = inits.Opens (record {
   own = setup_with credential stamp draws bindings;
+  mech = mechs.Kerberos (waiting credential stamp draws bindings);
+})
+
+-- the end that began without negotiation, with its request alone
+abbrev pub bare_end : Granted → ℕ → List ℕ → Option (List ℕ) → EndSays
+bare_end credential stamp draws bindings = inits.Opens (record {
+  own = bare_setup credential stamp draws bindings;
   mech = mechs.Kerberos (waiting credential stamp draws bindings);
 })
 
@@ -145,4 +158,18 @@ pub record PairLaws : Type 0 where
       Initiator (initiating.own_list (setup_with credential stamp draws bindings)))) ≡ true
       → DoneAfterMics setup now drawn
       (opening_end credential stamp draws bindings) (first_token credential stamp draws bindings)
+      (pair_outcome (honest_judged credential stamp bindings pair.fit.part) drawn)
+  -- an initiator that doesn't negotiate begins with its request alone
+  pub bare_begins : (setup : AcceptSetup) (now : ℕ) (drawn : List ℕ) (credential : Granted)
+      (stamp : ℕ) (draws : List ℕ) (bindings : Option (List ℕ))
+      → Pair setup now drawn credential stamp draws bindings
+      → initiating.sent_of (initiating.init_start (bare_setup credential stamp draws bindings)) ≡ Ok
+      (bare_end credential stamp draws bindings, request_token credential stamp draws bindings)
+  -- where the acceptor takes that, its one answer completes both, with one outcome
+  pub bare : (setup : AcceptSetup) (now : ℕ) (drawn : List ℕ) (credential : Granted) (stamp : ℕ)
+      (draws : List ℕ) (bindings : Option (List ℕ))
+      → (pair : Pair setup now drawn credential stamp draws bindings)
+      → takes_bare setup ≡ true
+      → DoneAtOnce setup now drawn
+      (bare_end credential stamp draws bindings) (request_token credential stamp draws bindings)
       (pair_outcome (honest_judged credential stamp bindings pair.fit.part) drawn)

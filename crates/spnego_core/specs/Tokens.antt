@@ -1,6 +1,6 @@
 -- The tokens of a negotiation as an end reads and writes them, RFC 4178 section 4.2.
-use Rattle.std.specs.Prelude.{ℕ, Bool, true, false, List, [], ◌∷◌, Option, Some, None, Result, Ok}
-use Rattle.std.specs.Prelude.{Err}
+use Rattle.std.specs.Prelude.{ℕ, Bool, true, false, if◌then◌else◌, List, [], ◌∷◌, Option, Some}
+use Rattle.std.specs.Prelude.{None, Result, Ok, Err}
 use Rattle.der_core.specs.declared.refusal.DerRefusal.{DerRefusal}
 use Rattle.der_core.specs.Format.{all_of}
 use Rattle.spnego_msgs.specs.declared.neg_state.NegState.{NegState}
@@ -26,9 +26,35 @@ init_read token = said_in (neg_init.read (all_of token))
 unfoldable pub resp_read : List ℕ → Result NegResp NegRefusal
 resp_read token = said_in (neg_resp.read (all_of token))
 
--- the octets of an initiator's first token
+-- the first of a list's identifiers
+abbrev pub first_of : List (List ℕ) → Option (List ℕ)
+first_of [] = None
+first_of (first ∷ rest) = Some first
+
+-- a reply that is the mechanism's own token, to an initiator with this list that doesn't negotiate:
+-- its mechanism is chosen, and is complete with that token
+abbrev pub bare_reply : List (List ℕ) → List ℕ → NegResp
+bare_reply list token =
+    record { state = Some Completed; mech = first_of list; token = Some token; mic = None }
+
+-- the first reply, by whether the initiator negotiates; its list
+abbrev pub first_read : Bool → List (List ℕ) → List ℕ → Result NegResp NegRefusal
+first_read true list token = resp_read token
+first_read false list token = Ok (bare_reply list token)
+
+-- the mechanism's token where it stands alone, without negotiation
+abbrev pub alone : Option (List ℕ) → List ℕ
+alone None = []
+alone (Some token) = token
+
+-- the octets of a NegTokenInit
 unfoldable pub init_octets : NegInit → List ℕ
 init_octets init = neg_init.spell init
+
+-- the octets of an initiator's first token, by whether it negotiates
+abbrev pub first_octets : Bool → NegInit → List ℕ
+first_octets true init = init_octets init
+first_octets false init = alone init.token
 
 -- the octets of a later token
 unfoldable pub resp_octets : NegResp → List ℕ
@@ -79,3 +105,8 @@ says_completed (Some state) = is_state_completed state
 abbrev pub asks_mic : Option NegState → Bool
 asks_mic None = false
 asks_mic (Some state) = is_state_request state
+
+-- the last reply of an acceptor, once the initiator's MIC was verified (RFC 4178 section 5): to one
+-- that says accept-completed with it nothing more is said, to another one that all is complete
+abbrev pub last_octets : Option NegState → List ℕ
+last_octets state = if says_completed state then [] else resp_octets completes

@@ -14,6 +14,8 @@ use sec_base::{Items, Moment, Octets, Oid};
 pub enum Turn {
     First,
     Later,
+    /// The one of a mechanism that came without negotiation.
+    Bare,
 }
 
 /// A mechanism was chosen.

@@ -5,8 +5,9 @@ ghost use Rattle.sec_base.specs.Answers.{Gives};
 ghost use Rattle.spnego_core.specs.AcceptMech.{answered};
 ghost use Rattle.spnego_core.specs.Sizes.{IsShort, FitsBeside, IsMicSized, ShortTold};
 ghost use Rattle.spnego_core.specs.Sizes.{ShortAnswered, ShortAccept};
-ghost use Rattle.spnego_core.specs.Accepting.{state_said, mech_said, reply_with, reply, finished};
-ghost use Rattle.spnego_core.specs.Accepting.{going, told, owes, oid_chosen};
+ghost use Rattle.spnego_core.specs.Tokens.{alone};
+ghost use Rattle.spnego_core.specs.Accepting.{state_said, mech_said, octets_of, reply_with, reply};
+ghost use Rattle.spnego_core.specs.Accepting.{finished, going, told, owes, oid_chosen};
 ghost use Rattle.spnego_core.specs.ListMic.{list_mic};
 ghost use Rattle.krb_tokens.specs.declared.end.Side.TheVariants.{Acceptor};
 
@@ -24,28 +25,29 @@ use spnego_msgs::{NegResp, NegState};
 use std::alloc::Global;
 
 /// What a reply says of the negotiation.
-fn state_said(turn: Turn, owes: bool, finished: bool) -> NegState
+fn state_said(turn: Turn, owes: bool, finished: bool) -> Option<NegState>
     ensures { result ≡ state_said turn owes finished }
 {
     match turn {
         Turn::First => {
             if owes {
-                NegState::RequestMic
+                Some(NegState::RequestMic)
             } else if finished {
-                NegState::Completed
+                Some(NegState::Completed)
             } else {
-                NegState::Incomplete
+                Some(NegState::Incomplete)
             }
         }
         Turn::Later => {
             if owes {
-                NegState::Incomplete
+                Some(NegState::Incomplete)
             } else if finished {
-                NegState::Completed
+                Some(NegState::Completed)
             } else {
-                NegState::Incomplete
+                Some(NegState::Incomplete)
             }
         }
+        Turn::Bare => None,
     }
 }
 
@@ -56,6 +58,28 @@ fn mech_said(turn: Turn, oid: Oid) -> Option<Oid>
     match turn {
         Turn::First => Some(oid),
         Turn::Later => None,
+        Turn::Bare => None,
+    }
+}
+
+/// The mechanism's token where it stands alone.
+fn alone(alloc: Global, token: Option<Octets>) -> Octets
+    ensures { result ≡ alone token }
+{
+    match token {
+        Some(token) => token,
+        None => Octets::from_vec(Vec::new(alloc)),
+    }
+}
+
+/// The octets of a reply in its turn.
+fn octets_of(alloc: Global, turn: Turn, resp: NegResp) -> Result<Octets, NoMemory>
+    ensures { IfOk result (λ o. o ≡ octets_of turn resp) }
+{
+    match turn {
+        Turn::First => resp_octets(alloc, &resp),
+        Turn::Later => resp_octets(alloc, &resp),
+        Turn::Bare => Ok(alone(alloc, resp.token)),
     }
 }
 
@@ -74,12 +98,12 @@ fn reply(
 {
     let _content = oid.content();
     let resp = NegResp {
-        state: Some(state_said(turn, owes, finished)),
+        state: state_said(turn, owes, finished),
         mech: mech_said(turn, oid),
         token,
         mic,
     };
-    resp_octets(alloc, &resp)
+    octets_of(alloc, turn, resp)
 }
 
 /// What follows a mechanism that is done.

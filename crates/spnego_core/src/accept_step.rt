@@ -1,28 +1,32 @@
 //! The acceptor's steps, RFC 4178 sections 3.2, 4.2.2 and 5.
 
-ghost use Rattle.std.specs.Prelude.{◌≡◌, IfOk};
+ghost use Rattle.std.specs.Prelude.{◌≡◌, [], ◌∷◌, IfOk, Some};
 ghost use Rattle.sec_base.specs.Answers.{Gives};
 ghost use Rattle.spnego_core.specs.declared.accept_end.AcceptEnd.TheVariants as ends;
+ghost use Rattle.spnego_core.specs.declared.accept_end.AcceptStep.TheVariants as steps;
+ghost use Rattle.spnego_core.specs.Tokens.{last_octets};
 ghost use Rattle.spnego_core.specs.AcceptMech.{accept_taken};
 ghost use Rattle.spnego_core.specs.Sizes.{ShortAccept};
 ghost use Rattle.spnego_core.specs.ListMic.{is_list_mic};
 ghost use Rattle.spnego_core.specs.Steps.{due};
 ghost use Rattle.krb_tokens.specs.declared.end.Side.TheVariants.{Acceptor};
-ghost use Rattle.spnego_core.specs.Accepting.{begun, token_for, started, chose, begins, proceeds};
+ghost use Rattle.spnego_core.specs.Accepting.{begun, token_for, started, chose, begins};
+ghost use Rattle.spnego_core.specs.Accepting.{first_taken, proceeds};
 ghost use Rattle.spnego_core.specs.Accepting.{closes, closed, run, step_of, accept_step};
 
 use crate::accept_end::{AcceptEnd, AcceptStep, Chosen, Owing, Running, Turn};
 use crate::accept_mech::accept_begun;
 use crate::accept_reply::{going, told};
+use crate::bare::bare_oid;
 use crate::choice::{best, is_first_named, is_mic_due};
 use crate::list_mic::is_list_mic;
 use crate::refusal::NegRefusal;
 use crate::setup::AcceptSetup;
-use crate::tokens::{init_read, rejects, resp_read};
+use crate::tokens::{init_read, last_octets, rejects, resp_read};
 use gss_base::MechKind;
 use krb_tokens::Side;
-use sec_base::{Items, Moment, Octets, Oid};
-use spnego_msgs::{NegInit, NegResp};
+use sec_base::{Items, Moment, NoMemory, Octets, Oid};
+use spnego_msgs::{NegInit, NegResp, NegState};
 use std::alloc::Global;
 
 /// The state in which a mechanism begins.
@@ -54,7 +58,7 @@ fn run(
     setup: &AcceptSetup,
     turn: Turn,
     running: Running,
-    token: &Octets,
+    token: &[u8],
     now: Moment,
     draws: &[u8; 66],
 ) -> Result<AcceptStep, NegRefusal>
@@ -63,7 +67,7 @@ fn run(
         (run turn running.chosen (accept_taken setup.now running.mech token.now now draws.now))) }
 {
     let Running { chosen, mech } = running;
-    let answer = mech.take(alloc, setup, token.as_slice(), now, draws)?;
+    let answer = mech.take(alloc, setup, token, now, draws)?;
     let step = told(alloc, turn, chosen, answer)?;
     Ok(step)
 }
@@ -87,7 +91,10 @@ fn started(
             let step = going(alloc, Turn::First, chosen, mech, None)?;
             Ok(step)
         }
-        Some(token) => run(alloc, setup, Turn::First, running, &token, now, draws),
+        Some(token) => {
+            let octets = token.as_slice();
+            run(alloc, setup, Turn::First, running, octets, now, draws)
+        }
     }
 }
 
@@ -118,6 +125,51 @@ fn begins(
     started(alloc, setup, begun(setup, list, kind), token, now, draws)
 }
 
+/// The list of one identifier.
+fn list_of(alloc: Global, oid: Oid) -> Result<Items<Oid>, NoMemory>
+    ensures { IfOk result (λ l. l ≡ oid ∷ []) }
+{
+    let mut list = Vec::new(alloc);
+    list.push(oid)?;
+    Ok(Items::of(list))
+}
+
+/// What follows a request of Kerberos that came without negotiation, under this identifier.
+fn taken_bare(
+    alloc: Global,
+    setup: &AcceptSetup,
+    oid: Oid,
+    token: &[u8],
+    now: Moment,
+    draws: &[u8; 66],
+) -> Result<AcceptStep, NegRefusal>
+    ensures short { IfOk result ShortAccept }
+    ensures exact { Gives NegRefusal.NoMemory (λ s. s) result
+        (step_of (first_taken setup.now now draws.now token.now (Some oid))) }
+{
+    let list = list_of(alloc, oid)?;
+    let running = begun(setup, list, MechKind::Kerberos);
+    run(alloc, setup, Turn::Bare, running, token, now, draws)
+}
+
+/// What follows the first token.
+fn first_taken(
+    alloc: Global,
+    setup: &AcceptSetup,
+    token: &[u8],
+    now: Moment,
+    draws: &[u8; 66],
+) -> Result<AcceptStep, NegRefusal>
+    ensures short { IfOk result ShortAccept }
+    ensures exact { Gives NegRefusal.NoMemory (λ s. s) result
+        (step_of (accept_step setup.now ends.New token.now now draws.now)) }
+{
+    match bare_oid(setup, token) {
+        Some(oid) => taken_bare(alloc, setup, oid, token, now, draws),
+        None => begins(alloc, setup, init_read(alloc, token)?, now, draws),
+    }
+}
+
 /// What follows a later token, of so many octets, while the mechanism isn't done.
 #[tactic(auto, unfolding(crate::specs::Accepting::proceeds))]
 fn proceeds(
@@ -138,7 +190,10 @@ fn proceeds(
         return Err(NegRefusal::Rejected);
     }
     match &resp.token {
-        Some(token) => run(alloc, setup, Turn::Later, running, token, now, draws),
+        Some(token) => {
+            let octets = token.as_slice();
+            run(alloc, setup, Turn::Later, running, octets, now, draws)
+        }
         None => {
             drop(running);
             Err(NegRefusal::Defective { at: size })
@@ -160,6 +215,21 @@ fn mic_judged(alloc: Global, owing: &Owing, mic: &Octets) -> Result<(), NegRefus
     }
 }
 
+/// The context stands, and the last reply is by the state that came with the initiator's MIC.
+fn settled(alloc: Global, owing: Owing, state: Option<NegState>) -> Result<AcceptStep, NoMemory>
+    ensures short { IfOk result ShortAccept }
+    ensures exact { IfOk result
+        (λ s. s ≡ steps.Done owing.outcome owing.lasts (last_octets state)) }
+{
+    match last_octets(alloc, state) {
+        Ok(octets) => Ok(AcceptStep::Done(owing.outcome, owing.lasts, octets)),
+        Err(refusal) => {
+            drop(owing);
+            Err(refusal)
+        }
+    }
+}
+
 /// What follows a later token once the mechanism is done and the initiator's MIC is due.
 #[tactic(auto, unfolding(crate::specs::Accepting::closes))]
 fn closes(alloc: Global, owing: Owing, resp: &NegResp) -> Result<AcceptStep, NegRefusal>
@@ -176,8 +246,8 @@ fn closes(alloc: Global, owing: Owing, resp: &NegResp) -> Result<AcceptStep, Neg
     };
     match mic_judged(alloc, &owing, mic) {
         Ok(()) => {
-            let nothing = Octets::from_vec(Vec::new(alloc));
-            Ok(AcceptStep::Done(owing.outcome, owing.lasts, nothing))
+            let step = settled(alloc, owing, resp.state)?;
+            Ok(step)
         }
         Err(refusal) => {
             drop(owing);
@@ -246,7 +316,7 @@ fn stepped(
         (step_of (accept_step setup.now end token.now now draws.now)) }
 {
     match end {
-        AcceptEnd::New => begins(alloc, setup, init_read(alloc, token)?, now, draws),
+        AcceptEnd::New => first_taken(alloc, setup, token, now, draws),
         AcceptEnd::Runs(running) => carried_on(alloc, setup, running, token, now, draws),
         AcceptEnd::Owes(owing) => closed(alloc, owing, token),
     }

@@ -29,7 +29,8 @@ fn is_among(kinds: &[MechKind], kind: MechKind) -> bool
     kinds.iter().any(|other| same_kind(*other, kind))
 }
 
-fn is_first(kinds: &[MechKind], kind: MechKind) -> bool
+/// Whether the first of these mechanisms is this one.
+pub fn is_first(kinds: &[MechKind], kind: MechKind) -> bool
     ensures { result ≡ is_first kinds.now kind }
 {
     match kinds {

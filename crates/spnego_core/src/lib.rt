@@ -6,6 +6,7 @@ mod accept_end;
 mod accept_mech;
 mod accept_reply;
 mod accept_step;
+mod bare;
 mod choice;
 mod exchange_laws;
 mod init_reply;

@@ -55,6 +55,8 @@ pub struct InitFacts {
     pub stamp: Moment,
     /// Random octets, used once.
     pub draws: [u8; 66],
+    /// It negotiates; else its list is one credential of Kerberos under its own name, whose request is its first token as it stands.
+    pub negotiates: bool,
 }
 
 /// What an acceptor is begun with.
@@ -68,4 +70,6 @@ pub struct AcceptSetup {
     pub bindings: Option<Bindings>,
     /// The mechanisms that are offered, the preferred first.
     pub offer: Items<MechKind>,
+    /// A request of Kerberos that comes without negotiation is taken, where Kerberos is the first of the offer.
+    pub bare: bool,
 }

@@ -1,9 +1,9 @@
 //! What the tables rest on: the keytab, the ticket and the session key of `alice@R` at `rpc/host@R`, the user of SCRAM and the verifier
 //! file, and the random octets of both ends.
 
-ghost use Rattle.std.specs.Prelude.{◌≡◌, ◌≤◌, ◌∷◌, [], length, IfSome, true, not};
+ghost use Rattle.std.specs.Prelude.{◌≡◌, ◌≤◌, ◌∷◌, [], length, IfSome, true, false, not};
 ghost use Rattle.spnego_core.specs.Choice.{is_same_oid};
-ghost use Rattle.spnego_core.specs.InitMech.{oid_listed, is_own_list};
+ghost use Rattle.spnego_core.specs.InitMech.{oid_listed, is_own_list, is_bare_list};
 
 use crate::names::{named, octets_by_name};
 use gss_base::{KerberosName, MechKind, Principal};
@@ -93,25 +93,67 @@ pub fn credential(
     })
 }
 
-/// What an initiator with this list begins with, without bindings.
-fn setup_of(list: Vec<MechCred>, stamp: Moment, draws: [u8; 66]) -> InitFacts
-    ensures { result.list ≡ list.items }
+/// What an initiator with this list begins with, without bindings, by whether it negotiates.
+fn setup_of(list: Vec<MechCred>, negotiates: bool, stamp: Moment, draws: [u8; 66]) -> InitFacts
+    ensures list { result.list ≡ list.items }
+    ensures negotiates { result.negotiates ≡ negotiates }
 {
     InitFacts {
         list: Items::of(list),
         bindings: None,
         stamp,
         draws,
+        negotiates,
+    }
+}
+
+/// Whether a list is one credential of Kerberos, under its own name.
+fn is_bare_list(list: &[MechCred]) -> bool
+    ensures { result ≡ is_bare_list list.now }
+{
+    match list {
+        [only] => match only {
+            MechCred::Kerberos { name, .. } => match *name {
+                KerberosName::Standard => true,
+                KerberosName::Microsoft => false,
+            },
+            MechCred::Scram { .. } => false,
+        },
+        _ => false,
+    }
+}
+
+/// The same, where the list is one for that.
+fn setup_if_fit(
+    list: Vec<MechCred>,
+    negotiates: bool,
+    stamp: Moment,
+    draws: [u8; 66],
+) -> Option<InitFacts>
+    ensures list { IfSome result (λ own. own.list ≡ list.items) }
+    ensures bare { IfSome result
+        (λ own. own.negotiates ≡ false → is_bare_list own.list ≡ true) }
+{
+    if negotiates {
+        return Some(setup_of(list, true, stamp, draws));
+    }
+    if is_bare_list(list.as_slice()) {
+        Some(setup_of(list, false, stamp, draws))
+    } else {
+        drop(list);
+        None
     }
 }
 
 /// What an initiator begins with: this credential of Kerberos alone, without bindings, at this moment.
 pub fn initiator(alloc: Global, credential: Credential, stamp: Moment) -> Option<InitFacts>
-    ensures { IfSome result (λ own. is_own_list own.list ≡ true) }
+    ensures list { IfSome result (λ own. is_own_list own.list ≡ true) }
+    ensures bare { IfSome result
+        (λ own. own.negotiates ≡ false → is_bare_list own.list ≡ true) }
 {
     let name = KerberosName::Standard;
     match one(alloc, MechCred::Kerberos { name, credential }) {
-        Some(list) => Some(setup_of(list, stamp, own_draws())),
+        Some(list) => Some(setup_of(list, true, stamp, own_draws())),
         None => None,
     }
 }
@@ -153,11 +195,18 @@ fn is_offered(offer: &mut Vec<MechKind>, letter: char) -> bool {
     match letter {
         'k' => offer.push(MechKind::Kerberos).is_ok(),
         's' => offer.push(MechKind::Scram).is_ok(),
+        BARE => true,
         _ => false,
     }
 }
 
-/// The mechanisms that an offer's letters name: `k` Kerberos, `s` SCRAM.
+/// The letter by which a request of Kerberos is taken that comes without negotiation.
+const BARE: char = 'b';
+
+/// The letter of an initiator's one mechanism where it doesn't negotiate.
+const UNLISTED: char = 'n';
+
+/// The mechanisms that an offer's letters name: `k` Kerberos, `s` SCRAM; `b` names none.
 fn offer_of(alloc: Global, letters: &str) -> Option<Vec<MechKind>> {
     let mut offer = Vec::new(alloc);
     let mut are_well = true;
@@ -168,7 +217,7 @@ fn offer_of(alloc: Global, letters: &str) -> Option<Vec<MechKind>> {
 }
 
 /// What an acceptor begins with, by its name's text form, the octets of its keytab and its verifier file, and the letters of its offer,
-/// without bindings.
+/// without bindings. With `b` among the letters it takes a request that comes without negotiation.
 pub fn acceptor(
     alloc: Global,
     own: &str,
@@ -189,6 +238,7 @@ pub fn acceptor(
         verifiers,
         bindings: None,
         offer: Items::of(offer),
+        bare: letters.contains(BARE),
     })
 }
 
@@ -226,10 +276,11 @@ impl Setting {
         }
     }
 
-    /// The credential that a letter names: `k` Kerberos, `m` the same under Microsoft's name, `s` SCRAM.
+    /// The credential that a letter names: `k` Kerberos, `m` the same under Microsoft's name, `s` SCRAM, and `n` Kerberos again.
     fn named(&self, alloc: Global, letter: char) -> Option<MechCred> {
         match letter {
             'k' => self.ticket(alloc, KerberosName::Standard),
+            UNLISTED => self.ticket(alloc, KerberosName::Standard),
             'm' => self.ticket(alloc, KerberosName::Microsoft),
             's' => self.login(alloc),
             _ => None,
@@ -257,20 +308,24 @@ impl Setting {
         }
     }
 
-    /// What an initiator begins with, by the letters of its list and its random octets, at 1,000,000 seconds.
+    /// What an initiator begins with, by the letters of its list and its random octets, at 1,000,000 seconds. With `n` it doesn't negotiate.
     pub fn initiator_with(&self, alloc: Global, letters: &str, draws: [u8; 66]) -> Option<InitFacts>
-        ensures { IfSome result (λ own. is_own_list own.list ≡ true) }
+        ensures list { IfSome result (λ own. is_own_list own.list ≡ true) }
+        ensures bare { IfSome result
+            (λ own. own.negotiates ≡ false → is_bare_list own.list ≡ true) }
     {
         let stamp = Moment::new(1_000_000, 0)?;
         match self.list_of(alloc, letters) {
-            Some(list) => Some(setup_of(list, stamp, draws)),
+            Some(list) => setup_if_fit(list, !letters.contains(UNLISTED), stamp, draws),
             None => None,
         }
     }
 
     /// The same with the random octets 00 to 41.
     pub fn initiator(&self, alloc: Global, letters: &str) -> Option<InitFacts>
-        ensures { IfSome result (λ own. is_own_list own.list ≡ true) }
+        ensures list { IfSome result (λ own. is_own_list own.list ≡ true) }
+        ensures bare { IfSome result
+            (λ own. own.negotiates ≡ false → is_bare_list own.list ≡ true) }
     {
         self.initiator_with(alloc, letters, own_draws())
     }

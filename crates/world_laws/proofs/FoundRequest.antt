@@ -1,5 +1,5 @@
 -- The request that a context is fixed by is the one in the token: it is what the step judged.
-use Rattle.std.proofs.Common.{◌≡◌, ℕ, Bool, true, false, not, if◌then◌else◌, List, length, map, Option, None, Some, refl, sym, subst, ◌∙◌}
+use Rattle.std.proofs.Common.{◌≡◌, ℕ, Bool, true, false, not, if◌then◌else◌, List, [], ◌∷◌, length, map, Option, None, Some, refl, sym, subst, ◌∙◌}
 use Rattle.std.specs.Prelude.{Result, Ok, Err}
 use Rattle.gss_base.specs.declared.mech.MechKind.{MechKind}
 use Rattle.gss_base.specs.declared.mech.MechKind.TheVariants as kinds
@@ -19,7 +19,7 @@ use Rattle.spnego_core.specs.declared.setup.AcceptSetup.{AcceptSetup}
 use Rattle.spnego_core.specs.declared.accept_mech.AcceptMech.{AcceptMech}
 use Rattle.spnego_core.specs.declared.accept_mech.AcceptMech.TheVariants as mechs
 use Rattle.spnego_core.specs.declared.accept_end.Turn.{Turn}
-use Rattle.spnego_core.specs.declared.accept_end.Turn.TheVariants.{First, Later}
+use Rattle.spnego_core.specs.declared.accept_end.Turn.TheVariants.{First, Later, Bare}
 use Rattle.spnego_core.specs.declared.accept_end.Chosen.{Chosen}
 use Rattle.spnego_core.specs.declared.accept_end.Running.{Running}
 use Rattle.spnego_core.specs.declared.accept_end.Owing.{Owing}
@@ -29,10 +29,11 @@ use Rattle.spnego_core.specs.Steps.{◌>>=◌, due, or_refuse}
 use Rattle.spnego_core.specs.Tokens.{init_read, resp_read, rejects}
 use Rattle.spnego_core.specs.ListMic.{is_list_mic}
 use Rattle.krb_tokens.specs.declared.end.Side.TheVariants.{Acceptor}
+use Rattle.spnego_core.specs.Bare.{bare_oid}
 use Rattle.spnego_core.specs.Choice.{is_first_named, best}
 use Rattle.spnego_core.specs.AcceptMech.{ByRequest, ByProof, request_taken, text_taken, proof_taken, accept_taken}
-use Rattle.spnego_core.specs.Accepting.{Fixed, Accepted, run, token_for, started, chose, begins, proceeds, settled, closes, accept_step}
-use Rattle.world_laws.specs.Lanes.{request_in, request_of_init, request_of_resp, request_of}
+use Rattle.spnego_core.specs.Accepting.{Fixed, Accepted, run, begun, token_for, started, chose, begins, first_taken, proceeds, settled, closes, accept_step}
+use Rattle.world_laws.specs.Lanes.{request_in, request_of_init, request_of_first, request_of_resp, request_of}
 
 -- the request in a token was judged, and what was found is what was found in it
 pub record Requested (setup : AcceptSetup) (now : ℕ) (token : Option (List ℕ)) (request : Judged) (found : List MechMaking) : Type 0 where
@@ -166,10 +167,10 @@ of-closes : (setup : AcceptSetup) (now : ℕ) (other : Option (List ℕ)) (owing
 unfolding closes
 of-closes setup now other owing resp =
     of-due setup now other Rejected (not (rejects resp.state))
-    (or_refuse MicMissing resp.mic >>= (λ mic. due MicBad (is_list_mic owing.outcome Acceptor owing.received mic) >>= (λ right. Ok (settled owing mic))))
+    (or_refuse MicMissing resp.mic >>= (λ mic. due MicBad (is_list_mic owing.outcome Acceptor owing.received mic) >>= (λ right. Ok (settled owing resp.state mic))))
     (of-bind {A = List ℕ} setup now other (or_refuse MicMissing resp.mic)
-    (λ mic. due MicBad (is_list_mic owing.outcome Acceptor owing.received mic) >>= (λ right. Ok (settled owing mic)))
-    (λ mic e. of-due setup now other MicBad (is_list_mic owing.outcome Acceptor owing.received mic) (Ok (settled owing mic)) (λ fixed request f b. absurd (none-some fixed f))))
+    (λ mic. due MicBad (is_list_mic owing.outcome Acceptor owing.received mic) >>= (λ right. Ok (settled owing resp.state mic)))
+    (λ mic e. of-due setup now other MicBad (is_list_mic owing.outcome Acceptor owing.received mic) (Ok (settled owing resp.state mic)) (λ fixed request f b. absurd (none-some fixed f))))
 
 -- ---- the machine
 
@@ -181,8 +182,12 @@ of-resp : (setup : AcceptSetup) (now : ℕ) (draws : List ℕ) (size : ℕ) (run
 of-resp setup now draws size running (Err refusal) = tt
 of-resp setup now draws size running (Ok resp) = of-proceeds setup now draws size running resp
 
+of-first : (setup : AcceptSetup) (now : ℕ) (draws token : List ℕ) (bare : Option (List ℕ)) → Of setup now (request_of_first setup token bare) (first_taken setup now draws token bare)
+of-first setup now draws token None = of-init setup now draws (init_read token)
+of-first setup now draws token (Some oid) = of-mech setup now draws Bare (begun setup (oid ∷ []) kinds.Kerberos).chosen mechs.Kerberos token
+
 of-step : (setup : AcceptSetup) (end : AcceptEnd) (token : List ℕ) (now : ℕ) (draws : List ℕ) → Of setup now (request_of setup end token) (accept_step setup end token now draws)
-of-step setup ends.New token now draws = of-init setup now draws (init_read token)
+of-step setup ends.New token now draws = of-first setup now draws token (bare_oid setup token)
 of-step setup (ends.Runs running) token now draws = of-resp setup now draws (length token) running (resp_read token)
 of-step setup (ends.Owes owing) token now draws =
     of-bind {A = NegResp} setup now None (resp_read token) (closes owing) (λ resp e. of-closes setup now None owing resp)

@@ -29,7 +29,7 @@ use Rattle.spnego_core.specs.Ends as ends
 use Rattle.spnego_core.specs.EndSteps as steps
 use Rattle.spnego_core.specs.Outcome.{outcome_of}
 use Rattle.spnego_core.specs.Steps.{◌>>=◌, due, or_refuse}
-use Rattle.spnego_core.specs.Tokens.{rejects, says_completed, resp_read, last_read, resp_octets}
+use Rattle.spnego_core.specs.Tokens.{rejects, says_completed, first_read, resp_read, last_read, resp_octets}
 use Rattle.spnego_core.specs.ListMic.{is_list_mic, mic_making, mic_found}
 use Rattle.spnego_core.specs.Choice.{is_first}
 use Rattle.spnego_core.specs.InitMech.{kinds_of, cred_for, request_begun, text_begun, init_begun, reply_answered, text_answered, final_answered, init_taken}
@@ -195,7 +195,7 @@ closed-one signed resp =
     (λ same. none-one _ (looks_again-none signed resp.state resp.mic)))
 
 step-one : (scram : ScramLaws) (old : EndSays) (token : List ℕ) → On OneProof (init_step old token)
-step-one scram (ends.Opens opening) token = on-bind OneProof (resp_read token) (opened (length token) opening) (λ resp. opened-one scram (length token) opening resp)
+step-one scram (ends.Opens opening) token = on-bind OneProof (first_read opening.own.negotiates (own_list opening.own) token) (opened (length token) opening) (λ resp. opened-one scram (length token) opening resp)
 step-one scram (ends.Talks talking) token = on-bind OneProof (resp_read token) (talked (length token) talking) (λ resp. talked-one scram (length token) talking resp)
 step-one scram (ends.Signed signed) token = on-bind OneProof (last_read token) (closed signed) (λ resp. closed-one signed resp)
 

@@ -38,7 +38,7 @@ use Rattle.spnego_core.specs.Initiating.{Started, Initiated, opens, starts, init
 use Rattle.spnego_core.specs.InitLaws.{finished_in}
 use Rattle.spnego_core.specs.ListMic.{is_list_mic, mic_found}
 use Rattle.spnego_core.specs.Steps.{◌>>=◌, due, or_refuse}
-use Rattle.spnego_core.specs.Tokens.{resp_octets, rejects, says_completed, resp_read, last_read}
+use Rattle.spnego_core.specs.Tokens.{resp_octets, rejects, says_completed, first_read, resp_read, last_read}
 use Rattle.rpc_msgs.proofs.XdrLaws.{ok_is}
 use Rattle.spnego_core.proofs.InitSteps.{On}
 use Rattle.spnego_core.proofs.Makings.{among_front, among_back}
@@ -230,7 +230,7 @@ ReadyBy (ends.Talks talking) outcome = Waited (proof_end talking.mech) outcome
 ReadyBy (ends.Signed signed) outcome = signed.outcome ≡ outcome
 
 on-step : (scram : ScramLaws) (old : EndSays) (token : List ℕ) → On (Proving (ReadyBy old)) (init_step old token)
-on-step scram (ends.Opens opening) token = goes_on (Proving (ReadyBy (ends.Opens opening))) (resp_read token) _ (λ resp. opened-proving scram (length token) opening resp)
+on-step scram (ends.Opens opening) token = goes_on (Proving (ReadyBy (ends.Opens opening))) (first_read opening.own.negotiates (own_list opening.own) token) _ (λ resp. opened-proving scram (length token) opening resp)
 on-step scram (ends.Talks talking) token = goes_on (Proving (ReadyBy (ends.Talks talking))) (resp_read token) _ (λ resp. talked-proving scram (length token) talking resp)
 on-step scram (ends.Signed signed) token = goes_on (Proving (ReadyBy (ends.Signed signed))) (last_read token) _ (λ resp. closed-proving signed resp)
 

@@ -25,7 +25,7 @@ use Rattle.spnego_core.specs.declared.setup.AcceptSetup.{AcceptSetup}
 use Rattle.spnego_core.specs.declared.accept_mech.AcceptMech.{AcceptMech}
 use Rattle.spnego_core.specs.declared.accept_mech.AcceptMech.TheVariants as mechs
 use Rattle.spnego_core.specs.declared.accept_end.Turn.{Turn}
-use Rattle.spnego_core.specs.declared.accept_end.Turn.TheVariants.{First, Later}
+use Rattle.spnego_core.specs.declared.accept_end.Turn.TheVariants.{First, Later, Bare}
 use Rattle.spnego_core.specs.declared.accept_end.Chosen.{Chosen}
 use Rattle.spnego_core.specs.declared.accept_end.Running.{Running}
 use Rattle.spnego_core.specs.declared.accept_end.Owing.{Owing}
@@ -38,9 +38,10 @@ use Rattle.spnego_core.specs.declared.accept_end.AcceptStep.TheVariants as steps
 use Rattle.spnego_core.specs.Steps.{◌>>=◌, due, or_refuse}
 use Rattle.spnego_core.specs.Tokens.{init_read, resp_read, rejects}
 use Rattle.spnego_core.specs.ListMic.{list_mic, is_list_mic}
+use Rattle.spnego_core.specs.Bare.{bare_oid}
 use Rattle.spnego_core.specs.Choice.{is_first_named, best}
 use Rattle.spnego_core.specs.AcceptMech.{request_taken, text_taken, proof_taken, accept_taken}
-use Rattle.spnego_core.specs.Accepting.{Fixed, Accepted, reply, oid_chosen, finished, gone_on, run, begun, token_for, started, chose, begins, proceeds, settled, closes, accept_step}
+use Rattle.spnego_core.specs.Accepting.{Fixed, Accepted, reply, oid_chosen, finished, gone_on, run, begun, token_for, started, chose, begins, first_taken, proceeds, settled, closes, accept_step}
 use Rattle.context_table.specs.declared.slot.SlotState.{SlotState}
 use Rattle.context_table.specs.declared.slot.SlotState.TheVariants as states
 use Rattle.context_table.specs.declared.slot.SlotState.TheVariants.{Negotiating, Complete}
@@ -180,13 +181,17 @@ on-closes : (owing : Owing) (resp : NegResp) → On (closes owing resp)
 unfolding closes
 on-closes owing resp =
     on-due Rejected (not (rejects resp.state))
-    (or_refuse MicMissing resp.mic >>= (λ mic. due MicBad (is_list_mic owing.outcome Acceptor owing.received mic) >>= (λ right. Ok (settled owing mic))))
+    (or_refuse MicMissing resp.mic >>= (λ mic. due MicBad (is_list_mic owing.outcome Acceptor owing.received mic) >>= (λ right. Ok (settled owing resp.state mic))))
     (on-bind {A = List ℕ} (or_refuse MicMissing resp.mic)
-    (λ mic. due MicBad (is_list_mic owing.outcome Acceptor owing.received mic) >>= (λ right. Ok (settled owing mic)))
-    (λ mic. on-due MicBad (is_list_mic owing.outcome Acceptor owing.received mic) (Ok (settled owing mic)) (record { owes = λ other e. absurd (none-some other e) })))
+    (λ mic. due MicBad (is_list_mic owing.outcome Acceptor owing.received mic) >>= (λ right. Ok (settled owing resp.state mic)))
+    (λ mic. on-due MicBad (is_list_mic owing.outcome Acceptor owing.received mic) (Ok (settled owing resp.state mic)) (record { owes = λ other e. absurd (none-some other e) })))
+
+on-first : (setup : AcceptSetup) (now : ℕ) (draws token : List ℕ) (bare : Option (List ℕ)) → On (first_taken setup now draws token bare)
+on-first setup now draws token None = on-bind {A = NegInit} (init_read token) (begins setup now draws) (λ init. on-begins setup now draws init)
+on-first setup now draws token (Some oid) = on-mech setup now draws Bare (begun setup (oid ∷ []) kinds.Kerberos).chosen mechs.Kerberos token
 
 on-step : (setup : AcceptSetup) (old : AcceptEnd) (token : List ℕ) (now : ℕ) (draws : List ℕ) → On (accept_step setup old token now draws)
-on-step setup ends.New token now draws = on-bind {A = NegInit} (init_read token) (begins setup now draws) (λ init. on-begins setup now draws init)
+on-step setup ends.New token now draws = on-first setup now draws token (bare_oid setup token)
 on-step setup (ends.Runs running) token now draws =
     on-bind {A = NegResp} (resp_read token) (proceeds setup now draws (length token) running) (λ resp. on-proceeds setup now draws (length token) running resp)
 on-step setup (ends.Owes owing) token now draws = on-bind {A = NegResp} (resp_read token) (closes owing) (λ resp. on-closes owing resp)

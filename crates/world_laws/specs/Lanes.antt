@@ -31,6 +31,7 @@ use Rattle.spnego_core.specs.declared.accept_end.AcceptEnd.{AcceptEnd}
 use Rattle.spnego_core.specs.declared.accept_end.AcceptEnd.TheVariants as ends
 use Rattle.spnego_core.specs.Accepting.{Fixed, Accepted}
 use Rattle.spnego_core.specs.Choice.{best, is_first_named}
+use Rattle.spnego_core.specs.Bare.{bare_oid}
 use Rattle.spnego_core.specs.Tokens.{init_read, resp_read}
 use Rattle.accept_core.specs.Stepping.{IsNext}
 use Rattle.accept_book.specs.declared.book_answer.Lease.{Lease}
@@ -232,6 +233,12 @@ request_of_init setup (Err refusal) = None
 request_of_init setup (Ok init) = if is_first_named init.list kinds.Kerberos
     then request_in (best setup.offer init.list) init.token else None
 
+-- the request in a first token: in one that negotiates, or the token of one that doesn't, whose
+-- frame has this identifier of Kerberos
+abbrev pub request_of_first : AcceptSetup → List ℕ → Option (List ℕ) → Option (List ℕ)
+request_of_first setup token None = request_of_init setup (init_read token)
+request_of_first setup token (Some oid) = Some token
+
 -- the mechanism's token in a NegTokenResp, none where it couldn't be read or has none
 abbrev pub token_of_resp : Result NegResp NegRefusal → Option (List ℕ)
 token_of_resp (Err refusal) = None
@@ -246,7 +253,7 @@ request_of_resp (mechs.Proof end) resp = None
 -- the request in a token, by what is due next to the end that takes it: the first token, one of the
 -- mechanism, or the MIC over the list
 abbrev pub request_of : AcceptSetup → AcceptEnd → List ℕ → Option (List ℕ)
-request_of setup ends.New token = request_of_init setup (init_read token)
+request_of setup ends.New token = request_of_first setup token (bare_oid setup token)
 request_of setup (ends.Runs running) token = request_of_resp running.mech (resp_read token)
 request_of setup (ends.Owes owing) token = None
 

@@ -3,15 +3,23 @@ use Rattle.std.proofs.Common.{◌≡◌, ◌⊎◌, inl, inr, ℕ, ◌≤◌, li
 use Rattle.std.proofs.lemmas.Option.{none-some}
 use Rattle.gss_base.specs.declared.mark.Mark.{Mark}
 use Rattle.gss_base.specs.declared.mech.MechKind.{MechKind}
+use Rattle.gss_base.specs.declared.mech.MechKind.TheVariants as kinds
+use Rattle.gss_base.specs.declared.mech.KerberosName.TheVariants.{Standard}
+use Rattle.krb_files.specs.Granted.{Granted}
 use Rattle.krb_tokens.specs.declared.end.Side.TheVariants.{Initiator, Acceptor}
 use Rattle.scram_mech.specs.MechMaking.{OfType, OfPassword, MechMaking, AmongMakings, proof_making}
 use Rattle.spnego_core.specs.declared.outcome.Outcome.{Outcome}
+use Rattle.spnego_core.specs.declared.setup.MechCred.TheVariants as creds
 use Rattle.spnego_core.specs.MechStates.{InitMech}
 use Rattle.spnego_core.specs.MechStates as tells
 use Rattle.spnego_core.specs.declared.accept_mech.AcceptMech.{AcceptMech}
+use Rattle.spnego_core.specs.declared.accept_mech.AcceptMech.TheVariants as mechs
 use Rattle.spnego_core.specs.declared.accept_end.AcceptEnd.{AcceptEnd}
+use Rattle.spnego_core.specs.declared.accept_end.AcceptEnd.TheVariants as accepts
 use Rattle.spnego_core.specs.declared.accept_end.Chosen.{Chosen}
 use Rattle.spnego_core.specs.declared.accept_end.Turn.{Turn}
+use Rattle.spnego_core.specs.declared.accept_end.Turn.TheVariants.{Bare}
+use Rattle.spnego_core.specs.Ends as inits
 use Rattle.spnego_core.specs.AcceptMech.{Basis, Built, MechTaken, accept_taken}
 use Rattle.spnego_core.specs.Accepting.{Fixed, told, gone_on, finished, told_makes, mic_made, fixed_with, ran_with, run, reply}
 use Rattle.spnego_core.specs.Choice.{is_first}
@@ -27,7 +35,7 @@ use Rattle.accept_book.specs.Booking.{mark_of}
 use Rattle.world_laws.specs.Deeds.{Opened}
 use Rattle.world_laws.specs.Lanes.{opened_in, request_of}
 use Rattle.world_laws.specs.Premises.{WasIssued}
-use Rattle.world_runs.proofs.MetMessages.{reply-short, token-holds, none-holds, mic-holds, ended_plain, takes-plain, ended_signed, takes-signed, closed_with, closes, owes, settled, settles, acceptors-found, initiators-found}
+use Rattle.world_runs.proofs.MetMessages.{reply-short, token-holds, none-holds, mic-holds, ended_plain, takes-plain, takes-bare, ended_signed, takes-signed, closed_with, closes, owes, settled, settles, acceptors-found, initiators-found}
 use Rattle.world_runs.proofs.MetRounds.{Setting, setup_in, IsNew, IsTyped, Heard, Goes, Final, Ends, Rounds}
 
 -- ---- what was handed out, by parts
@@ -140,6 +148,32 @@ plain-ends x kind turn end octets drawn mech own_mech token made outcome first i
   outcome_is = refl;
   lasts_is = refl;
   final = final-on x (made ++ r.taken.makes) (made ++ (r.taken.makes ++ told_makes (chosen_on x.own kind false) r.taken.answer)) outcome r.basis r.final (sorted-by x kind false drawn mech own_mech token made outcome r);
+}
+
+-- ---- without negotiation
+
+pub bare-ends : (x : Setting) (credential : Granted) (octets drawn : List ℕ) (own_mech : InitMech) (token : List ℕ) (made : List MechMaking) (outcome : Outcome)
+    → x.own.negotiates ≡ false → x.own.list ≡ creds.Kerberos Standard credential ∷ [] → Hears (setup_in x) accepts.New octets Bare (chosen_on x.own kinds.Kerberos false) mechs.Kerberos token → Issues x accepts.New octets
+    → LastRound x drawn mechs.Kerberos own_mech token made outcome → Ends x accepts.New (inits.Opens (record { own = x.own; mech = own_mech })) octets drawn made [] outcome
+bare-ends x credential octets drawn own_mech token made outcome negotiates list hears issues r = record {
+  heard = heard-so x kinds.Kerberos false Bare accepts.New octets drawn mechs.Kerberos own_mech token made outcome hears issues r;
+  lasts = r.lasts;
+  reply = reply Bare (oid_on x.own kinds.Kerberos) false true (Some r.last) None;
+  done = r.passes Bare (chosen_on x.own kinds.Kerberos false);
+  size = reply-short Bare x.own kinds.Kerberos false true (Some r.last) None (token-holds r.last r.size) (none-holds 28);
+  took = record {
+    initiated = ended_plain kinds.Kerberos r.replied outcome;
+    initiates = takes-bare x.own credential own_mech r.last r.replied outcome negotiates list r.replies r.done;
+    found = λ m among. wider made r.taken.makes (told_makes (chosen_on x.own kinds.Kerberos false) r.taken.answer) m (r.verified m (bare r.replied.found m among));
+  };
+  completes = refl;
+  none = ap (λ (ms : List MechMaking). ms ++ []) r.none;
+  context = fixed_as x drawn mechs.Kerberos own_mech token made outcome r;
+  fixes = ap option_to_list (fixes-so x kinds.Kerberos false Bare drawn mechs.Kerberos own_mech token made outcome r);
+  outcome_is = refl;
+  lasts_is = refl;
+  final = final-on x (made ++ r.taken.makes) (made ++ (r.taken.makes ++ told_makes (chosen_on x.own kinds.Kerberos false) r.taken.answer)) outcome r.basis r.final
+      (sorted-by x kinds.Kerberos false drawn mechs.Kerberos own_mech token made outcome r);
 }
 
 -- ---- with them

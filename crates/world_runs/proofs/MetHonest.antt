@@ -9,6 +9,7 @@ use Rattle.krb_files.specs.Granted.{Granted}
 use Rattle.ap_exchange.specs.declared.judged.Judged.{Judged}
 use Rattle.ap_exchange.specs.Answer.{answer_token, answer_making}
 use Rattle.ap_exchange.specs.Judging.{client_granted, judged_mark}
+use Rattle.ap_exchange.specs.Request.{RequestFits}
 use Rattle.scram_mech.specs.Acceptor.{AcceptModel}
 use Rattle.scram_mech.specs.MechMaking.{OfType, OfPassword, MechMaking, AmongMakings, typed, proof_making}
 use Rattle.scram_mech.specs.Secrets.{stored_key}
@@ -27,6 +28,7 @@ use Rattle.spnego_core.specs.Accepting.{gone_on, finished, run, ran_with, reply}
 use Rattle.spnego_core.specs.declared.accept_end.Answered.{Answered}
 use Rattle.spnego_core.specs.declared.accept_end.Answered.TheVariants as afters
 use Rattle.spnego_core.specs.Ends.{PlainSetup}
+use Rattle.spnego_core.specs.Bare.{takes_bare}
 use Rattle.spnego_core.specs.Choice.{is_first_named, best}
 use Rattle.spnego_core.specs.Exchange.{Occasion, passed, TicketFits, UserFits}
 use Rattle.spnego_core.specs.InitMech.{is_own, is_own_list, cred_for, ticket_for}
@@ -36,7 +38,8 @@ use Rattle.spnego_core.specs.Tokens.{init_octets, resp_octets}
 use Rattle.spnego_core.proofs.Makings.{among_front, among_back, among_split}
 use Rattle.spnego_core.proofs.MechRounds.{request_begins}
 use Rattle.spnego_core.proofs.Sizes.{answer_within}
-use Rattle.spnego_core.proofs.Spelled.{init_reads, token_reads, token_short}
+use Rattle.spnego_core.proofs.Bares.{request-bare}
+use Rattle.spnego_core.proofs.Spelled.{init_asks, init_reads, token_reads, token_short}
 use Rattle.spnego_core.proofs.Turns.{MayCome, oid_on, chosen_on, end_at, Hears}
 use Rattle.accept_book.specs.Booking.{BookOf, mark_of}
 use Rattle.world_laws.specs.Deeds.{Opened}
@@ -101,18 +104,22 @@ pub issues-none : (x : Setting) (end : AcceptEnd) (octets : List ℕ) → reques
 issues-none x end octets none = λ o e. absurd (none-some o (sym (ap (opened_in (setup_in x).keytab (setup_in x).own) none) ∙ e))
 
 pub first-scram : (setup : AcceptSetup) (own : PlainSetup) (token : List ℕ) → is_own_list own.list ≡ true → IsShort (init_octets (first_sent own token)) → best setup.offer (own_list own) ≡ Some kinds.Scram → request_of setup accepts.New (init_octets (first_sent own token)) ≡ None
-first-scram setup own token list short chosen = rw (init_reads own token list short, chosen) (none-either (is_first_named (own_list own) kinds.Kerberos))
+first-scram setup own token list short chosen = rw (init_asks setup own token list short, init_reads own token list short, chosen) (none-either (is_first_named (own_list own) kinds.Kerberos))
   where
     none-either : (b : Bool) → ◌≡◌ {A = Option (List ℕ)} (if b then None else None) None
     none-either true = refl
     none-either false = refl
 
 pub first-other : (setup : AcceptSetup) (own : PlainSetup) (token : List ℕ) → is_own_list own.list ≡ true → IsShort (init_octets (first_sent own token)) → is_first_named (own_list own) kinds.Kerberos ≡ false → request_of setup accepts.New (init_octets (first_sent own token)) ≡ None
-first-other setup own token list short other = rw (init_reads own token list short, other) refl
+first-other setup own token list short other = rw (init_asks setup own token list short, init_reads own token list short, other) refl
 
 pub first-request : (setup : AcceptSetup) (own : PlainSetup) (token : List ℕ) → is_own_list own.list ≡ true → IsShort (init_octets (first_sent own token)) → best setup.offer (own_list own) ≡ Some kinds.Kerberos → is_first_named (own_list own) kinds.Kerberos ≡ true
     → request_of setup accepts.New (init_octets (first_sent own token)) ≡ Some token
-first-request setup own token list short chosen first = rw (init_reads own token list short, chosen, first) refl
+first-request setup own token list short chosen first = rw (init_asks setup own token list short, init_reads own token list short, chosen, first) refl
+
+-- a request alone is one in the whole token
+pub bare-request : (setup : AcceptSetup) (own : PlainSetup) (credential : Granted) → RequestFits credential own.stamp own.draws own.bindings → takes_bare setup ≡ true → request_of setup accepts.New (tickets.request_by own credential) ≡ Some (tickets.request_by own credential)
+bare-request setup own credential made takes = rw (request-bare setup credential own.stamp own.draws own.bindings made takes) refl
 
 pub later-request : (setup : AcceptSetup) (chosen : Chosen) (token : List ℕ) → IsShort (resp_octets (token_sent token)) → request_of setup (accepts.Runs (record { chosen = chosen; mech = mechs.Kerberos })) (resp_octets (token_sent token)) ≡ Some token
 later-request setup chosen token short = rw (token_reads token short) refl

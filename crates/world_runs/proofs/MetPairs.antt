@@ -31,22 +31,25 @@ use Rattle.spnego_core.specs.declared.accept_mech.AcceptMech.TheVariants as mech
 use Rattle.spnego_core.specs.declared.accept_end.AcceptEnd.{AcceptEnd}
 use Rattle.spnego_core.specs.declared.accept_end.AcceptEnd.TheVariants as accepts
 use Rattle.spnego_core.specs.declared.accept_end.Turn.{Turn}
-use Rattle.spnego_core.specs.declared.accept_end.Turn.TheVariants.{First, Later}
+use Rattle.spnego_core.specs.declared.accept_end.Turn.TheVariants.{First, Later, Bare}
 use Rattle.spnego_core.specs.Ends.{PlainSetup}
 use Rattle.spnego_core.specs.Ends as inits
 use Rattle.spnego_core.specs.AcceptMech.{accept_begun}
 use Rattle.spnego_core.specs.Accepting.{reply}
 use Rattle.spnego_core.specs.Choice.{same_kind, is_first, is_first_named, is_mic_due, best}
-use Rattle.spnego_core.specs.Exchange.{TicketFits, UserFits, Fitting, rounds_of, tokens_of, HonestPair}
+use Rattle.spnego_core.specs.Exchange.{BareFits, TicketFits, UserFits, Fitting, rounds_of, tokens_of, HonestPair}
 use Rattle.spnego_core.specs.InitMech.{kind_of, kinds_of, oid_listed, is_own, is_own_list, cred_for, ticket_for, MechBegun, request_begun, text_begun, init_begun}
 use Rattle.spnego_core.specs.Initiating.{Started, own_list, first_sent, token_sent, starts, opens}
 use Rattle.spnego_core.specs.Sizes.{IsShort}
-use Rattle.spnego_core.specs.Tokens.{init_octets, resp_octets}
+use Rattle.spnego_core.specs.Bare.{takes_bare}
+use Rattle.spnego_core.specs.Tokens.{first_octets, init_octets, resp_octets}
 use Rattle.spnego_core.proofs.InitSteps.{cred_for-kind}
 use Rattle.spnego_core.proofs.Makings.{among_back, among_split}
 use Rattle.spnego_core.proofs.MechRounds.{request_begins, request-begins}
 use Rattle.spnego_core.proofs.Spelled.{token_short}
-use Rattle.spnego_core.proofs.Turns.{MayCome, oid_on, chosen_on, end_at, Hears, hears_first, hears_later}
+use Rattle.spnego_core.proofs.Bares.{bare-list, takes-first}
+use Rattle.spnego_core.proofs.Exchanges.{only_cred}
+use Rattle.spnego_core.proofs.Turns.{MayCome, oid_on, chosen_on, end_at, Hears, hears_first, hears_later, hears_bare}
 use Rattle.accept_book.specs.Booking.{BookOf}
 use Rattle.accept_core.specs.History.{taken_of}
 use Rattle.world_laws.specs.Lanes.{request_of}
@@ -55,8 +58,8 @@ use Rattle.world_laws.specs.Premises.{Marking}
 use Rattle.world_runs.proofs.MetMessages.{reply-short, none-holds, switched, switches, waiting, waits}
 use Rattle.world_runs.proofs.MetTexts as texts
 use Rattle.world_runs.proofs.MetTokens as tickets
-use Rattle.world_runs.proofs.MetFinishes.{bare, finishes}
-use Rattle.world_runs.proofs.MetHonest.{by_ticket, by_account, ticket-marked, account-marked, issues-none, issues-request, first-scram, first-other, first-request, later-request, request-round, user_on, proof-round, text-round}
+use Rattle.world_runs.proofs.MetFinishes.{bare, finishes, bare-ends}
+use Rattle.world_runs.proofs.MetHonest.{by_ticket, by_account, ticket-marked, account-marked, issues-none, issues-request, first-scram, first-other, first-request, bare-request, later-request, request-round, user_on, proof-round, text-round}
 use Rattle.world_runs.proofs.MetRounds.{Setting, Marked, IsTyped, Goes, Rounds}
 
 -- ---- what a beginning hands out
@@ -194,7 +197,17 @@ pub record Honest (book : BookOf) (own : PlainSetup) (kind : MechKind) (now : �
 
 -- an end that sent it
 abbrev started_by : PlainSetup → MechBegun → Started
-started_by own begun = record { end = inits.Opens (record { own = own; mech = begun.mech }); token = init_octets (first_sent own begun.token); makes = begun.makes }
+started_by own begun = record { end = inits.Opens (record { own = own; mech = begun.mech }); token = first_octets own.negotiates (first_sent own begun.token); makes = begun.makes }
+
+-- one that negotiates, and one that doesn't
+abbrev started_as : PlainSetup → MechBegun → List ℕ → Started
+started_as own begun token = record { end = inits.Opens (record { own = own; mech = begun.mech }); token = token; makes = begun.makes }
+
+as-negotiated : (own : PlainSetup) (begun : MechBegun) → own.negotiates ≡ true → started_by own begun ≡ started_as own begun (init_octets (first_sent own begun.token))
+as-negotiated own begun negotiates = ap (λ (b : Bool). started_as own begun (first_octets b (first_sent own begun.token))) negotiates
+
+as-alone : (own : PlainSetup) (begun : MechBegun) → own.negotiates ≡ false → started_by own begun ≡ started_as own begun begun.token
+as-alone own begun alone = ap (λ (b : Bool). started_as own begun (first_octets b (first_sent own begun.token))) alone
 
 record Began (own : PlainSetup) (started : Started) : Type 0 where
   first : MechCred
@@ -264,10 +277,10 @@ record Pair (book : BookOf) (own : PlainSetup) (cred : MechCred) (now : ℕ) (st
   untaken : taken_of book.core.history ≡ []
 
 -- the chosen mechanism is the own first one
-with-first : (book : BookOf) (own : PlainSetup) (cred : MechCred) (now : ℕ) (draws : List (List ℕ)) (started : Started) (begun : MechBegun) → Pair book own cred now started begun
+with-first : (book : BookOf) (own : PlainSetup) (cred : MechCred) (now : ℕ) (draws : List (List ℕ)) (started : Started) (begun : MechBegun) → Pair book own cred now started begun → own.negotiates ≡ true
     → AllByRecursion (Fitting book.setup own cred) (occasions_at now draws) → is_first (kinds_of own.list) (kind_of cred) ≡ true → length draws ≡ rounds_due (kind_of cred) (is_mic_due book.setup.offer (own_list own) (kind_of cred))
     → Honest book own (kind_of cred) now draws started
-with-first book own cred now draws started begun p fits first count =
+with-first book own cred now draws started begun p negotiates fits first count =
     let kind : MechKind = kind_of cred in
     let due : Bool = is_mic_due book.setup.offer (own_list own) kind in
     let o = p.began in
@@ -275,12 +288,13 @@ with-first book own cred now draws started begun p fits first count =
     let same : o.first ≡ cred = first-chosen o.first cred o.rest kind here (subst (λ (l : List MechCred). cred_for l kind ≡ Some cred) o.list p.is_cred) in
     let begins : init_begun own cred ≡ Ok o.begun = subst (λ (c : MechCred). init_begun own c ≡ Ok o.begun) same o.begins in
     let named : is_first_named (own_list own) kind ≡ true = first-named own.list kind ∙ first in
-    let short : IsShort (init_octets (first_sent own o.begun.token)) = subst (λ (s : Started). IsShort s.token) o.is p.short in
+    let is : started ≡ started_as own o.begun (init_octets (first_sent own o.begun.token)) = o.is ∙ as-negotiated own o.begun negotiates in
+    let short : IsShort (init_octets (first_sent own o.begun.token)) = subst (λ (s : Started). IsShort s.token) is p.short in
     let r = runs book own cred now due First accepts.New (init_octets (first_sent own o.begun.token)) o.begun o.begun.makes draws (record {
       first = λ e. first;
       is_cred = p.is_cred;
       is = cred-own own.list kind cred p.is_cred;
-      may = first;
+      may = (negotiates, first);
       own_draws = p.own_draws;
       begins = begins;
       hears = hears_first book.setup own kind o.begun.token p.list short p.chosen named;
@@ -295,14 +309,14 @@ with-first book own cred now draws started begun p fits first count =
       marked = r.marked;
       outcome = r.outcome;
       mech = r.mech;
-      rounds = subst (λ (s : Started). Rounds (setting_with book own now r.marking) draws accepts.New s.end s.token s.makes [] r.outcome) (sym o.is) r.rounds;
+      rounds = subst (λ (s : Started). Rounds (setting_with book own now r.marking) draws accepts.New s.end s.token s.makes [] r.outcome) (sym is) r.rounds;
     }
 
 -- another one is chosen: its first token goes with the second message
-abbrev waits-goes : (x : Setting) (kind : MechKind) (drawn : List ℕ) (cred : MechCred) (first begun : MechBegun) → is_own_list x.own.list ≡ true → best x.book.setup.offer (own_list x.own) ≡ Some kind → is_first_named (own_list x.own) kind ≡ false → is_first (kinds_of x.own.list) kind ≡ false
+abbrev waits-goes : (x : Setting) (kind : MechKind) (drawn : List ℕ) (cred : MechCred) (first begun : MechBegun) → x.own.negotiates ≡ true → is_own_list x.own.list ≡ true → best x.book.setup.offer (own_list x.own) ≡ Some kind → is_first_named (own_list x.own) kind ≡ false → is_first (kinds_of x.own.list) kind ≡ false
     → IsShort (init_octets (first_sent x.own first.token)) → is_own x.own.list kind ≡ true → cred_for x.own.list kind ≡ Some cred → init_begun x.own cred ≡ Ok begun → IsShort (resp_octets (token_sent begun.token))
     → Goes x accepts.New (inits.Opens (record { own = x.own; mech = first.mech })) (init_octets (first_sent x.own first.token)) drawn first.makes []
-waits-goes x kind drawn cred first begun list chosen named other short is is_cred begins begun_short = record {
+waits-goes x kind drawn cred first begun negotiates list chosen named other short is is_cred begins begun_short = record {
   heard = record {
     accepted = waiting x.own kind;
     accepts = waits x.book.setup x.own kind first.token x.now drawn list short chosen named;
@@ -317,7 +331,7 @@ waits-goes x kind drawn cred first begun list chosen named other short is is_cre
   size = reply-short First x.own kind true false None None (none-holds 65000) (none-holds 28);
   took = record {
     initiated = switched x.own kind begun;
-    initiates = switches x.own kind first.mech cred begun is other is_cred begins;
+    initiates = switches x.own kind first.mech cred begun negotiates is other is_cred begins;
     found = λ m none. absurd none;
   };
   next = end_at Later x.own kind true begun.mech;
@@ -326,14 +340,15 @@ waits-goes x kind drawn cred first begun list chosen named other short is is_cre
   short = begun_short;
 }
 
-with-other : (book : BookOf) (own : PlainSetup) (cred : MechCred) (now : ℕ) (draws next : List ℕ) (rest : List (List ℕ)) (started : Started) (begun : MechBegun) → Pair book own cred now started begun
+with-other : (book : BookOf) (own : PlainSetup) (cred : MechCred) (now : ℕ) (draws next : List ℕ) (rest : List (List ℕ)) (started : Started) (begun : MechBegun) → Pair book own cred now started begun → own.negotiates ≡ true
     → AllByRecursion (Fitting book.setup own cred) (occasions_at now (next ∷ rest)) → is_first (kinds_of own.list) (kind_of cred) ≡ false → length (next ∷ rest) ≡ rounds_due (kind_of cred) true
     → Honest book own (kind_of cred) now (draws ∷ next ∷ rest) started
-with-other book own cred now draws next rest started begun p fits other count =
+with-other book own cred now draws next rest started begun p negotiates fits other count =
     let kind : MechKind = kind_of cred in
     let o = p.began in
     let named : is_first_named (own_list own) kind ≡ false = first-named own.list kind ∙ other in
-    let short : IsShort (init_octets (first_sent own o.begun.token)) = subst (λ (s : Started). IsShort s.token) o.is p.short in
+    let as_sent : started ≡ started_as own o.begun (init_octets (first_sent own o.begun.token)) = o.is ∙ as-negotiated own o.begun negotiates in
+    let short : IsShort (init_octets (first_sent own o.begun.token)) = subst (λ (s : Started). IsShort s.token) as_sent p.short in
     let is : is_own own.list kind ≡ true = cred-own own.list kind cred p.is_cred in
     let end : AcceptEnd = accepts.Runs (record { chosen = chosen_on own kind true; mech = accept_begun kind }) in
     let octets : List ℕ = resp_octets (token_sent begun.token) in
@@ -360,11 +375,60 @@ with-other book own cred now draws next rest started begun p fits other count =
       marked = r.marked;
       outcome = r.outcome;
       mech = r.mech;
-      rounds = subst (λ (s : Started). Rounds (setting_with book own now r.marking) (draws ∷ next ∷ rest) accepts.New s.end s.token s.makes [] r.outcome) (sym o.is) (
-        waits-goes (setting_with book own now r.marking) kind (take 66 draws) cred o.begun begun p.list p.chosen named other short is p.is_cred p.begins p.begun_short,
+      rounds = subst (λ (s : Started). Rounds (setting_with book own now r.marking) (draws ∷ next ∷ rest) accepts.New s.end s.token s.makes [] r.outcome) (sym as_sent) (
+        waits-goes (setting_with book own now r.marking) kind (take 66 draws) cred o.begun begun negotiates p.list p.chosen named other short is p.is_cred p.begins p.begun_short,
         r.rounds,
       );
     }
+
+-- ---- without negotiation
+
+begun-alone : (own : PlainSetup) (first cred : MechCred) (rest : List MechCred) (one other : MechBegun) → own.list ≡ first ∷ rest → own.list ≡ cred ∷ [] → init_begun own first ≡ Ok one → init_begun own cred ≡ Ok other → one ≡ other
+begun-alone own first cred rest one other here there begins also =
+    let lists : first ∷ rest ≡ cred ∷ [] = sym here ∙ there in
+    let same : first ≡ cred = cc in
+    ok-begun one other (sym (subst (λ (c : MechCred). init_begun own c ≡ Ok one) same begins) ∙ also)
+
+-- the acceptor takes the request alone, and the initiator is done by the reply
+with-alone : (book : BookOf) (own : PlainSetup) (credential : Granted) (now : ℕ) (draws : List (List ℕ)) (started : Started) (begun : MechBegun) → Pair book own (creds.Kerberos Standard credential) now started begun
+    → own.negotiates ≡ false → own.list ≡ creds.Kerberos Standard credential ∷ [] → takes_bare book.setup ≡ true → AllByRecursion (Fitting book.setup own (creds.Kerberos Standard credential)) (occasions_at now draws) → length draws ≡ 1
+    → Honest book own kinds.Kerberos now draws started
+with-alone book own credential now [] started begun p alone list takes fits count = absurd (omega (arith, count))
+with-alone book own credential now (draws ∷ next ∷ rest) started begun p alone list takes fits count = absurd (omega (arith, count))
+with-alone book own credential now (draws ∷ []) started begun p alone list takes fits count =
+    let f = fits.0.facts in
+    let o = p.began in
+    let token : List ℕ = tickets.request_by own credential in
+    let same : begun ≡ request_begins own credential = ok-begun begun (request_begins own credential) (sym p.begins ∙ request-begins book.setup own Standard credential (record { now = now; drawn = take 66 draws }) f) in
+    let one : o.begun ≡ request_begins own credential = begun-alone own o.first (creds.Kerberos Standard credential) o.rest o.begun begun o.list list o.begins p.begins ∙ same in
+    let is : started ≡ started_as own (request_begins own credential) token =
+    o.is ∙ (as-alone own o.begun alone ∙ ap (λ (b : MechBegun). started_as own b b.token) one) in
+    let j = tickets.judged_on book.setup own credential (record { now = now; drawn = take 66 draws }) f in
+    let new : cache_verdict book.core.cache.capacity (max book.core.cache.greatest now) [] (judged_mark j) ≡ Taken =
+    subst (λ (t : List TakenMark). cache_verdict book.core.cache.capacity (max book.core.cache.greatest now) t (judged_mark j) ≡ Taken) p.untaken (p.ready f.fit.part) in
+    let r = request-round book own now credential (take 66 draws) (request_begins own credential).makes p.own_draws fits.0.drawn f (ticket-of own Standard credential p.is_cred) new (inl refl) in
+    let x : Setting = by_ticket book own now credential (take 66 draws) f in
+    record {
+      marking = x.marking;
+      marked = ticket-marked book own now credential (take 66 draws) f (ticket-of own Standard credential p.is_cred);
+      outcome = tickets.outcome_with j (take 66 draws);
+      mech = refl;
+      rounds = subst (λ (s : Started). Rounds x (draws ∷ []) accepts.New s.end s.token s.makes [] (tickets.outcome_with j (take 66 draws))) (sym is)
+          (bare-ends x credential token (take 66 draws) (request_begins own credential).mech token (request_begins own credential).makes (tickets.outcome_with j (take 66 draws)) alone list
+          (hears_bare book.setup own credential list f.request takes) (issues-request book own now credential (take 66 draws) f accepts.New token (bare-request book.setup own credential f.request takes)) r);
+    }
+
+tokens-alone : (setup : AcceptSetup) (own : PlainSetup) (credential : Granted) → own.list ≡ creds.Kerberos Standard credential ∷ [] → takes_bare setup ≡ true → tokens_of setup own kinds.Kerberos ≡ 1
+tokens-alone setup own credential list takes = rw (list, takes-first setup takes) refl
+
+alone-by : (book : BookOf) (own : PlainSetup) (cred : MechCred) (now : ℕ) (draws : List (List ℕ)) (started : Started) (begun : MechBegun) → Pair book own cred now started begun
+    → own.negotiates ≡ false → BareFits book.setup own → AllByRecursion (Fitting book.setup own cred) (occasions_at now draws) → length draws ≡ tokens_of book.setup own (kind_of cred) → Honest book own (kind_of cred) now draws started
+alone-by book own cred now draws started begun p alone fit fits count =
+    let a = bare-list own.list fit.list in
+    let same : creds.Kerberos Standard a.credential ≡ cred = only_cred a.credential cred (subst (λ (l : List MechCred). cred_for l (kind_of cred) ≡ Some cred) a.is p.is_cred) in
+    subst (λ (c : MechCred). Pair book own c now started begun → AllByRecursion (Fitting book.setup own c) (occasions_at now draws) → length draws ≡ tokens_of book.setup own (kind_of c) → Honest book own (kind_of c) now draws started) same
+    (λ q f n. with-alone book own a.credential now draws started begun q alone a.is fit.takes f (n ∙ tokens-alone book.setup own a.credential a.is fit.takes))
+    p fits count
 
 -- ---- all of it
 
@@ -384,33 +448,34 @@ due-other : (a b : Bool) → a ≡ false → not (a && b) ≡ true
 due-other true b e = absurd cc
 due-other false b e = refl
 
-other-by : (book : BookOf) (own : PlainSetup) (cred : MechCred) (now : ℕ) (draws : List (List ℕ)) (started : Started) (begun : MechBegun) → Pair book own cred now started begun
+other-by : (book : BookOf) (own : PlainSetup) (cred : MechCred) (now : ℕ) (draws : List (List ℕ)) (started : Started) (begun : MechBegun) → Pair book own cred now started begun → own.negotiates ≡ true
     → AllByRecursion (Fitting book.setup own cred) (occasions_at now draws) → is_first (kinds_of own.list) (kind_of cred) ≡ false → length draws ≡ 1 + (rounds_of (kind_of cred) + 1)
     → Honest book own (kind_of cred) now draws started
-other-by book own cred now [] started begun p fits other count = absurd (omega (arith, count))
-other-by book own cred now (draws ∷ []) started begun p fits other count = absurd (omega (arith, count))
-other-by book own cred now (draws ∷ next ∷ rest) started begun p fits other count = with-other book own cred now draws next rest started begun p fits.1 other (omega (arith, count))
+other-by book own cred now [] started begun p negotiates fits other count = absurd (omega (arith, count))
+other-by book own cred now (draws ∷ []) started begun p negotiates fits other count = absurd (omega (arith, count))
+other-by book own cred now (draws ∷ next ∷ rest) started begun p negotiates fits other count = with-other book own cred now draws next rest started begun p negotiates fits.1 other (omega (arith, count))
 
-by-cred : (book : BookOf) (own : PlainSetup) (cred : MechCred) (now : ℕ) (draws : List (List ℕ)) (started : Started) (begun : MechBegun) → Pair book own cred now started begun
+by-cred : (book : BookOf) (own : PlainSetup) (cred : MechCred) (now : ℕ) (draws : List (List ℕ)) (started : Started) (begun : MechBegun) → Pair book own cred now started begun → own.negotiates ≡ true
     → AllByRecursion (Fitting book.setup own cred) (occasions_at now draws) → length (occasions_at now draws) ≡ tokens_of book.setup own (kind_of cred) → Honest book own (kind_of cred) now draws started
-by-cred book own cred now draws started begun p fits counted =
+by-cred book own cred now draws started begun p negotiates fits counted =
     let kind : MechKind = kind_of cred in
     let due : Bool = is_mic_due book.setup.offer (own_list own) kind in
     let count : length draws ≡ tokens_of book.setup own kind = sym (count-of now draws) ∙ counted in
     elim (cases_Bool (is_first (kinds_of own.list) kind)) [
-      | inl first ↦ with-first book own cred now draws started begun p fits first
+      | inl first ↦ with-first book own cred now draws started begun p negotiates fits first
           (count-first (length draws) (rounds_of kind) (if due then 1 else 0) (is_first (kinds_of own.list) kind) first count)
       | inr other ↦
           let is_due : due ≡ true = due-other (is_first_named (own_list own) kind) (is_first book.setup.offer kind) (first-named own.list kind ∙ other) in
           let whole : length draws ≡ 1 + (rounds_of kind + (if due then 1 else 0)) = count-other (length draws) (rounds_of kind) (if due then 1 else 0) (is_first (kinds_of own.list) kind) other count in
-          other-by book own cred now draws started begun p fits other (subst (λ (b : Bool). length draws ≡ 1 + (rounds_of kind + (if b then 1 else 0))) is_due whole)
+          other-by book own cred now draws started begun p negotiates fits other (subst (λ (b : Bool). length draws ≡ 1 + (rounds_of kind + (if b then 1 else 0))) is_due whole)
     ]
 
 pub honest : (book : BookOf) (own : PlainSetup) (kind : MechKind) (now : ℕ) (draws : List (List ℕ)) → taken_of book.core.history ≡ [] → (h : HonestPair book.setup own kind (occasions_at now draws)) → ReadyFor book own now h.cred → Honest book own kind now draws h.started
 honest book own kind now draws untaken h ready =
     subst (λ (k : MechKind). best book.setup.offer (own_list own) ≡ Some k → cred_for own.list k ≡ Some h.cred → length (occasions_at now draws) ≡ tokens_of book.setup own k → Honest book own k now draws h.started)
     (cred_for-kind own.list kind h.cred h.is_cred)
-    (λ chosen is_cred counted. by-cred book own h.cred now draws h.started h.begun (record {
+    (λ chosen is_cred counted.
+    let p : Pair book own h.cred now h.started h.begun = record {
       list = h.is_list;
       chosen = chosen;
       is_cred = is_cred;
@@ -421,5 +486,9 @@ honest book own kind now draws untaken h ready =
       begun_short = h.begun_short;
       ready = ready;
       untaken = untaken;
-    }) h.fit counted)
+    } in
+    elim (cases_Bool own.negotiates) [
+      | inl negotiates ↦ by-cred book own h.cred now draws h.started h.begun p negotiates h.fit counted
+      | inr alone ↦ alone-by book own h.cred now draws h.started h.begun p alone (h.bare alone) h.fit (sym (count-of now draws) ∙ counted)
+    ])
     h.chosen h.is_cred h.counted

@@ -13,6 +13,9 @@ same-creds here there = cc
 pub speak-talk-requires-clause-list : goal.speak-talk-requires-clause-list
 speak-talk-requires-clause-list g c = rw c.in-Ok.is at c.requires.own
 
+pub speak-talk-requires-clause-bare : goal.speak-talk-requires-clause-bare
+speak-talk-requires-clause-bare g c = λ off. rw c.in-Ok.is at c.requires.bare off
+
 pub returns-in-Ok-clause-ends : goal.returns-in-Ok-clause-ends
 returns-in-Ok-clause-ends g c = rw c.in-Ok.is (reported-begun c.speak-talk.result.parting c.report.ensures.kept)
 

@@ -1,11 +1,16 @@
 use Rattle.std.proofs.Common.{◌≡◌, subst, List, Result, Ok}
 use Rattle.spnego_core.specs.declared.setup.MechCred.{MechCred}
 use Rattle.client_command.proofs.ByCredentials.{other-by, fault-by, asked-by, stops-by, held-by, due-of, found-of, found-by, silent-by, silent-or}
+use Rattle.client_command.proofs.Listing.{fit-alone}
 use Rattle.client_command.proofs.Spoken.{ended-so}
 use Rattle.client_command.specs.Credentials.{creds_from}
 use Rattle.client_command.specs.Loading.{CredsFrom}
 use Rattle.client_options.specs.declared.ending.RunEnd.{RunEnd}
 use Rattle.client_command.proofs.client.run_with.Goals as goal
+
+pub run_by-ended-requires-clause-bare : goal.run_by-ended-requires-clause-bare
+run_by-ended-requires-clause-bare g c = λ off.
+    c.creds_given-creds.ensures.bare (fit-alone c.args.words.plan.negotiates c.args.words.sources.mechs c.requires.fit off)
 
 pub returns-clause-other : goal.returns-clause-other
 returns-clause-other g c = other-by c.creds_given-creds.result c.run_by-ended.result.end c.creds_given-creds.ensures.other c.run_by-ended.ensures.ends

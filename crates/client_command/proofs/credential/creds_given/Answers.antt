@@ -1,6 +1,6 @@
 use Rattle.std.proofs.Common.{IsTrue, Ok, Err, refl, arith}
 use Rattle.client_command.proofs.Asking.{asked-cache, asked-password, asked-both}
-use Rattle.client_command.proofs.Listing.{own-given}
+use Rattle.client_command.proofs.Listing.{own-given, bare-given}
 use Rattle.client_command.proofs.Loading.{with-cache}
 use Rattle.client_command.proofs.credential.creds_given.Goals as goal
 
@@ -49,3 +49,7 @@ returns-clause-read g c =
 pub returns-clause-own : goal.returns-clause-own
 returns-clause-own g c =
     own-given c.creds_with.result c.args.sources.now c.in-Ok.cache c.in-Ok-password_given.password c.creds_with.ensures.value c.requires
+
+pub returns-clause-bare : goal.returns-clause-bare
+returns-clause-bare g c =
+    bare-given c.creds_with.result c.args.sources.now c.in-Ok.cache c.in-Ok-password_given.password c.creds_with.ensures.value

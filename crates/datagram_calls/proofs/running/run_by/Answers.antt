@@ -6,6 +6,9 @@ use Rattle.datagram_calls.proofs.running.run_by.Goals as goal
 pub speak-spoken-requires-clause-list : goal.speak-spoken-requires-clause-list
 speak-spoken-requires-clause-list g c = rw c.in-Ok.is at c.requires.own
 
+pub speak-spoken-requires-clause-bare : goal.speak-spoken-requires-clause-bare
+speak-spoken-requires-clause-bare g c = λ off. rw c.in-Ok.is at c.requires.bare off
+
 pub returns-in-Ok-clause-behind : goal.returns-in-Ok-clause-behind
 returns-in-Ok-clause-behind g c = rw c.in-Ok.is (record {
   begun = reported-session c.speak-spoken.ensures.session_end c.report.ensures.kept;
