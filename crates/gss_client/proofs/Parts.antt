@@ -150,11 +150,11 @@ stops {a} {b} took refusal t cause = record {
 as-heard : (stream : List ℕ) (h : Heard) → next_of stream ≡ h → (listens stream).answer ≡ (by_heard h).answer
 as-heard stream h e = ap (λ (s : Said (List ℕ)). s.answer) (listens-by stream h e)
 
-pub heard-end : {a b : Wire} → a.coming ≡ [] → Took a b [] → Stopped listens a b PeerEnded
-heard-end {a} {b} e t = stops [] PeerEnded t (λ fault memory. as-heard b.coming ended (ap next_of (sym t.coming ∙ e) ∙ of-nothing))
+pub heard-end : {a b : Wire} → Took a b [] → b.coming ≡ [] → Stopped listens a b PeerEnded
+heard-end {a} {b} t e = stops [] PeerEnded t (λ fault memory. as-heard b.coming ended (ap next_of e ∙ of-nothing))
 
-pub heard-torn : {a b : Wire} → IsTorn a.coming → Took a b a.coming → Stopped listens a b PeerEnded
-heard-torn {a} {b} p t = stops a.coming PeerEnded t (λ fault memory. as-heard (a.coming ++ b.coming) ended (ap next_of (sym t.coming) ∙ of-torn a.coming p))
+pub heard-torn : {a b : Wire} (octets : List ℕ) → IsTorn octets → Took a b octets → b.coming ≡ [] → Stopped listens a b PeerEnded
+heard-torn {a} {b} octets p t e = stops octets PeerEnded t (λ fault memory. as-heard (octets ++ b.coming) ended (ap (λ (zs : List ℕ). next_of (octets ++ zs)) e ∙ (ap next_of (append-nil octets) ∙ of-torn octets p)))
 
 pub heard-long : {a b : Wire} (octets : List ℕ) → IsTooLong octets → Took a b octets → Stopped listens a b (BadReply Record)
 heard-long {a} {b} octets p t = stops octets (BadReply Record) t (λ fault memory. as-heard (octets ++ b.coming) unfit (of-too-long octets b.coming p))

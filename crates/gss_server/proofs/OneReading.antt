@@ -1,10 +1,10 @@
 -- A stream of records has one reading and so one end.
-use Rattle.std.proofs.Common.{◌≡◌, ◌≢◌, inl, inr, ℕ, suc, ◌+◌, ◌<◌, ◌≤◌, List, [], ◌∷◌, ◌++◌, length, refl, ap, sym, ◌∙◌, subst, arith, append_assoc, cond, true, false, ltb, eqb, Option, Some, None}
+use Rattle.std.proofs.Common.{◌≡◌, ◌≢◌, inl, inr, ℕ, suc, ◌+◌, ◌<◌, ◌≤◌, List, [], ◌∷◌, ◌++◌, length, refl, ap, sym, ◌∙◌, subst, arith, append_assoc, cond, Bool, IsTrue, true, false, ltb, eqb, Option, Some, None}
 use Rattle.std.specs.List.{AllByRecursion}
 use Rattle.std.proofs.lemmas.Bool.{cases_lt}
 use Rattle.std.proofs.lemmas.List.{append-nil, append_cancel_left}
 use Rattle.std.proofs.lemmas.Bool.Decides.{nat_tests}
-use Rattle.sec_base.specs.Link.{Wire}
+use Rattle.sec_base.specs.Link.{Wire, IsOver}
 use Rattle.rpc_msgs.specs.Records.{Fragments, octets_in, frame, IsRecord}
 use Rattle.rpc_msgs.specs.Reading.{First, nothing, short, long, many, whole, first_record}
 use Rattle.rpc_msgs.proofs.Readings.{first-none, of-frame, of-too-long, of-too-many, of-torn}
@@ -101,7 +101,7 @@ one-end before (r ∷ rs) (s ∷ ss) xs ys one two e all also p q =
     let m : before + suc (length ss) ≡ suc before + length ss = omega arith in
     one-end (suc before) rs ss xs ys one two more all.1 also.1 (subst (λ (k : ℕ). Shows one xs k) n p) (subst (λ (k : ℕ). Shows two ys k) m q)
 
-caused : (ending : ConnEnd) (rest coming : List ℕ) (count : ℕ) → ending ≢ LinkFault → ending ≢ NoMemory → ending ≢ Lost → Behind ending rest coming → Counts ending count → Shows ending (rest ++ coming) count
+caused : (ending : ConnEnd) (rest coming : List ℕ) (count : ℕ) → ending ≢ LinkFault → ending ≢ NoMemory → ending ≢ Lost → Behind ending rest (coming ≡ []) → Counts ending count → Shows ending (rest ++ coming) count
 unfolding end_at
 caused Ended rest coming count clear none known h n = shown Ended (rest ++ coming) count (let e = h.0 in let f = h.1 in rw (e, f) refl, n)
 caused LinkFault rest coming count clear none known h n = absurd (clear refl)
@@ -113,12 +113,23 @@ caused Budget rest coming count clear none known h n = at-budget count (rest ++ 
 caused NoMemory rest coming count clear none known h n = absurd (none refl)
 caused Lost rest coming count clear none known h n = absurd (known refl)
 
+-- what is behind the records, of a link that tells its octets
+told-behind : (told : Bool) (new : Wire) (ending : ConnEnd) (rest : List ℕ) → IsTrue told → Behind ending rest (IsOver told new) → Behind ending rest (new.coming ≡ [])
+told-behind told new Ended rest t h = (h.0, h.1 t)
+told-behind told new LinkFault rest t h = h
+told-behind told new TooLong rest t h = h
+told-behind told new TooManyFragments rest t h = h
+told-behind told new Torn rest t h = (h.0, h.1 t)
+told-behind told new Budget rest t h = h
+told-behind told new NoMemory rest t h = h
+told-behind told new Lost rest t h = h
+
 -- a connection that neither failed nor wanted memory, nor ended at a call of which it isn't known
 -- what became, has the end of its stream
-pub comes : {serves : Serving} {old new : Wire} {records : List Fragments} {kept : List Kept} (ending expected : ConnEnd) → OnWire serves old new records kept ending → Counts ending (length records) → StreamEnds old new expected → ending ≢ LinkFault → ending ≢ NoMemory → ending ≢ Lost → ending ≡ expected
-comes {old = old} {new = new} {records = records} ending expected s n e clear none known =
+pub comes : {told : Bool} {serves : Serving} {old new : Wire} {records : List Fragments} {kept : List Kept} (ending expected : ConnEnd) → IsTrue told → OnWire told serves old new records kept ending → Counts ending (length records) → StreamEnds old new expected → ending ≢ LinkFault → ending ≢ NoMemory → ending ≢ Lost → ending ≡ expected
+comes {told = told} {old = old} {new = new} {records = records} ending expected t s n e clear none known =
     let same : octets_of records ++ s.rest ≡ e.took = append_cancel_left old.taken (octets_of records ++ s.rest) e.took (sym s.went.taken ∙ e.taken) in
     let stream : octets_of records ++ (s.rest ++ new.coming) ≡ octets_of e.records ++ e.rest = sym (append_assoc (octets_of records) s.rest new.coming) ∙ (ap (λ (zs : List ℕ). zs ++ new.coming) same ∙ e.stream) in
     one-end 0 records e.records (s.rest ++ new.coming) e.rest ending expected stream s.each e.each
-    (subst (λ (k : ℕ). Shows ending (s.rest ++ new.coming) k) (omega arith) (caused ending s.rest new.coming (length records) clear none known s.behind n))
+    (subst (λ (k : ℕ). Shows ending (s.rest ++ new.coming) k) (omega arith) (caused ending s.rest new.coming (length records) clear none known (told-behind told new ending s.rest t s.behind) n))
     (subst (λ (k : ℕ). Shows expected e.rest k) (omega arith) (shown expected e.rest (length e.records) e.ends))

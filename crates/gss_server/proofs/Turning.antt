@@ -1,12 +1,11 @@
 -- Turn after turn of a connection.
-use Rattle.std.proofs.Common.{◌≡◌, ◌≢◌, inl, inr, lit<, lit≤, subst, ℕ, ◌+◌, ◌*◌, ◌<◌, ◌≤◌, List, [], ◌∷◌, ◌++◌, length, take, refl, ap, sym, ◌∙◌, arith, append_assoc, map, Bool, true, false, IsTrue, Option, Some, None, Ok, Err}
+use Rattle.std.proofs.Common.{◌≡◌, ◌≢◌, inl, inr, lit<, lit≤, subst, ℕ, ◌+◌, ◌*◌, ◌<◌, ◌≤◌, List, [], ◌∷◌, ◌++◌, length, take, refl, ap, sym, ◌∙◌, arith, append_assoc, map, Bool, Option, Some, None, Err}
 use Rattle.std.specs.List.{AllByRecursion}
 use Rattle.std.proofs.Math.Seq.{take-append-add, take-length}
 use Rattle.std.proofs.lemmas.Grind.{common_steps, flat_map-append}
 use Rattle.std.proofs.lemmas.List.{length-append, append-nil, length-map, map-append}
-use Rattle.sec_base.specs.Link.{Wire}
+use Rattle.sec_base.specs.Link.{Wire, HasTaken, HasWritten}
 use Rattle.rpc_msgs.specs.Records.{Fragments, octets_in, frame, IsRecord, IsFront}
-use Rattle.sec_base.specs.Streams.{Took, Put}
 use Rattle.gss_server.specs.declared.answer.Kept.{Kept}
 use Rattle.gss_server.specs.declared.connection.ConnEnd.{ConnEnd}
 use Rattle.gss_server.specs.declared.connection.ConnEnd.TheVariants.{Ended, LinkFault, TooLong, TooManyFragments, Torn, Budget, NoMemory, Lost}
@@ -23,70 +22,69 @@ use Rattle.gss_server.specs.Connections.{Went, octets_of, in_order, ruling_for, 
 use Rattle.gss_server.specs.Underway.{Underway, WentOn}
 use Rattle.gss_server.specs.Turns.{All, InPart, Nothing, Receives, Replies, Turns, Replied, Exchanges, Serves, ReadsTo, Stops, Breaks, Wanted}
 
-pub went-took : {a b : Wire} {xs : List ℕ} → Took a b xs → Went a b xs []
-went-took {a} {b} {xs} t = record {
+pub went-took : {told : Bool} {a b : Wire} {xs : List ℕ} → HasTaken told a b xs → Went told a b xs []
+went-took {a = a} t = record {
   taken = t.taken;
-  coming = ([], grind (arith, common_steps, t.coming));
+  coming = λ told. ([], append-nil a.coming ∙ t.coming told);
   written = t.written ∙ grind (arith, common_steps);
 }
 
-pub went-put : {a b c : Wire} {xs ys : List ℕ} → Took a b xs → Put b c ys → Went a c xs ys
-went-put {a} {b} {c} {xs} {ys} t p = record {
+pub went-put : {told : Bool} {a b c : Wire} {xs ys : List ℕ} → HasTaken told a b xs → HasWritten told b c ys → Went told a c xs ys
+went-put {b = b} {xs = xs} {ys = ys} t p = record {
   taken = p.taken ∙ t.taken;
-  coming = (p.coming.0, ap (λ (zs : List ℕ). zs ++ p.coming.0) t.coming ∙ (append_assoc xs b.coming p.coming.0 ∙ ap (λ (zs : List ℕ). xs ++ zs) (sym p.coming.1)));
+  coming = λ told.
+      let more = p.coming told in
+      (more.0, ap (λ (zs : List ℕ). zs ++ more.0) (t.coming told) ∙ (append_assoc xs b.coming more.0 ∙ ap (λ (zs : List ℕ). xs ++ zs) (sym more.1)));
   written = p.written ∙ ap (λ (zs : List ℕ). zs ++ ys) t.written;
 }
 
-pub went-again : {a b c : Wire} {xs ys us vs : List ℕ} → Went a b xs ys → Went b c us vs → Went a c (xs ++ us) (ys ++ vs)
-went-again {a} {b} {c} {xs} {ys} {us} {vs} p q = record {
+pub went-again : {told : Bool} {a b c : Wire} {xs ys us vs : List ℕ} → Went told a b xs ys → Went told b c us vs → Went told a c (xs ++ us) (ys ++ vs)
+went-again {a = a} {b = b} {c = c} {xs = xs} {ys = ys} {us = us} {vs = vs} p q = record {
   taken = q.taken ∙ (ap (λ (zs : List ℕ). zs ++ us) p.taken ∙ append_assoc a.taken xs us);
-  coming = (
-    p.coming.0 ++ q.coming.0,
-    sym (append_assoc a.coming p.coming.0 q.coming.0) ∙ (ap (λ (zs : List ℕ). zs ++ q.coming.0) p.coming.1 ∙ (append_assoc xs b.coming q.coming.0 ∙ (ap (λ (zs : List ℕ). xs ++ zs) q.coming.1 ∙ sym (append_assoc xs us c.coming)))),
-  );
+  coming = λ told.
+      let m = p.coming told in
+      let n = q.coming told in (
+        m.0 ++ n.0,
+        sym (append_assoc a.coming m.0 n.0) ∙ (ap (λ (zs : List ℕ). zs ++ n.0) m.1 ∙ (append_assoc xs b.coming n.0 ∙ (ap (λ (zs : List ℕ). xs ++ zs) n.1 ∙ sym (append_assoc xs us c.coming)))),
+      );
   written = q.written ∙ (ap (λ (zs : List ℕ). zs ++ vs) p.written ∙ append_assoc a.written ys vs);
 }
 
-pub went-same : {a b : Wire} {xs ys us vs : List ℕ} → Went a b xs ys → xs ≡ us → ys ≡ vs → Went a b us vs
-went-same {a} {b} w e f = record {
+pub went-same : {told : Bool} {a b : Wire} {xs ys us vs : List ℕ} → Went told a b xs ys → xs ≡ us → ys ≡ vs → Went told a b us vs
+went-same {a = a} {b = b} w e f = record {
   taken = w.taken ∙ ap (λ (zs : List ℕ). a.taken ++ zs) e;
-  coming = (w.coming.0, w.coming.1 ∙ ap (λ (zs : List ℕ). zs ++ b.coming) e);
+  coming = λ told. let m = w.coming told in (m.0, m.1 ∙ ap (λ (zs : List ℕ). zs ++ b.coming) e);
   written = w.written ∙ ap (λ (zs : List ℕ). a.written ++ zs) f;
 }
 
--- octets that were read are those of a record
-pub read-as : (told : Bool) {a b : Wire} (octets : List ℕ) → (IsTrue told → Receives a b (Ok octets)) → (cut : Fragments) × (octets ≡ octets_in cut) × (IsTrue told → IsRecord cut × Took a b (frame cut))
-read-as true octets r = let p = r refl in (p.0, p.2, λ t. (p.1, p.3))
-read-as false octets r = (record { earlier = []; last = octets }, refl, λ t. absurd cc)
-
 -- a record was read and then answered
-served-by : {told : Bool} {gained : List (Asked Admitted) → Type 0} {Is : Ruling → Type 0} {Much : List ℕ → List ℕ → Type 0} {serves : Serving} {a b c : Wire} {kept : List Kept} (cut : Fragments) → (IsTrue told → IsRecord cut × Took a b (frame cut)) → Replied told gained Is Much serves b c (octets_in cut) kept → Serves told gained Is Much serves a c kept
-served-by cut r p = record {
+served-by : {told : Bool} {gained : List (Asked Admitted) → Type 0} {Is : Ruling → Type 0} {Much : List ℕ → List ℕ → Type 0} {serves : Serving} {a b c : Wire} {kept : List Kept} (cut : Fragments) → IsRecord cut → HasTaken told a b (frame cut) → Replied told gained Is Much serves b c (octets_in cut) kept → Serves told gained Is Much serves a c kept
+served-by cut r h p = record {
   cut = cut;
   keeps = p.keeps;
-  wire = λ t. record { is_record = (r t).0; wrote = (p.wire t).wrote; much = (p.wire t).much; went = went-put (r t).1 (p.wire t).put };
+  wire = record { is_record = r; wrote = p.wire.wrote; much = p.wire.much; went = went-put h p.wire.put };
 }
 
-pub turned : (told : Bool) (gained : List (Asked Admitted) → Type 0) (serves : Serving) {a b : Wire} (c : Wire) (kept : List Kept) (cut : Fragments) (result : Option ConnEnd) → (IsTrue told → IsRecord cut × Took a b (frame cut)) → Replies told gained serves b c (octets_in cut) result kept → Turns told gained serves a c result kept
-turned told gained serves c kept cut None r p = served-by cut r p
-turned told gained serves c kept cut (Some Ended) r p = absurd p
-turned told gained serves c kept cut (Some LinkFault) r p = inr (served-by cut r p)
-turned told gained serves c kept cut (Some TooLong) r p = absurd p
-turned told gained serves c kept cut (Some TooManyFragments) r p = absurd p
-turned told gained serves c kept cut (Some Torn) r p = absurd p
-turned told gained serves c kept cut (Some Budget) r p = absurd p
-turned told gained serves c kept cut (Some Lost) r p = inr (served-by cut r p)
-turned told gained serves c kept cut (Some NoMemory) r (inl p) = inl (record {
+pub turned : (told : Bool) (gained : List (Asked Admitted) → Type 0) (serves : Serving) {a b : Wire} (c : Wire) (kept : List Kept) (cut : Fragments) (result : Option ConnEnd) → IsRecord cut → HasTaken told a b (frame cut) → Replies told gained serves b c (octets_in cut) result kept → Turns told gained serves a c result kept
+turned told gained serves c kept cut None r h p = served-by cut r h p
+turned told gained serves c kept cut (Some Ended) r h p = absurd p
+turned told gained serves c kept cut (Some LinkFault) r h p = inr (served-by cut r h p)
+turned told gained serves c kept cut (Some TooLong) r h p = absurd p
+turned told gained serves c kept cut (Some TooManyFragments) r h p = absurd p
+turned told gained serves c kept cut (Some Torn) r h p = absurd p
+turned told gained serves c kept cut (Some Budget) r h p = absurd p
+turned told gained serves c kept cut (Some Lost) r h p = inr (served-by cut r h p)
+turned told gained serves c kept cut (Some NoMemory) r h (inl p) = inl (record {
   none = p.none;
   early = λ e. absurd cc;
   known = λ e. absurd cc;
   asked = p.asked;
-  wire = λ t. record { octets = frame cut; behind = inr (record { cut = cut; is_record = (r t).0; spelled = refl }); went = went-put (r t).1 (p.wire t) };
+  wire = record { octets = frame cut; behind = inr (record { cut = cut; is_record = r; spelled = refl }); went = went-put h p.wire };
 })
-turned told gained serves c kept cut (Some NoMemory) r (inr p) = inr (served-by cut r p)
+turned told gained serves c kept cut (Some NoMemory) r h (inr p) = inr (served-by cut r h p)
 
 -- no record was read
-reads-to : {a b : Wire} (ending : ConnEnd) → Receives a b (Err ending) → ReadsTo a b ending
+reads-to : {told : Bool} {a b : Wire} (ending : ConnEnd) → Receives told a b (Err ending) → ReadsTo told a b ending
 reads-to Ended r = record { octets = []; behind = (refl, r.1); went = went-took r.0 }
 reads-to LinkFault r = record { octets = r.0; behind = r.1; went = went-took r.2 }
 reads-to TooLong r = record { octets = r.0; behind = r.1; went = went-took r.2 }
@@ -96,8 +94,8 @@ reads-to Budget r = absurd r
 reads-to Lost r = absurd r
 reads-to NoMemory r = record { octets = r.0; behind = r.1; went = went-took r.2 }
 
-pub unread : {told : Bool} {gained : List (Asked Admitted) → Type 0} {a b : Wire} (ending : ConnEnd) → gained [] → ending ≢ Budget → ending ≢ Lost → (IsTrue told → Receives a b (Err ending)) → Stops told gained a b ending []
-unread ending g early known r = record { none = refl; early = early; known = known; asked = g; wire = λ t. reads-to ending (r t) }
+pub unread : {told : Bool} {gained : List (Asked Admitted) → Type 0} {a b : Wire} (ending : ConnEnd) → gained [] → ending ≢ Budget → ending ≢ Lost → Receives told a b (Err ending) → Stops told gained a b ending []
+unread ending g early known r = record { none = refl; early = early; known = known; asked = g; wire = reads-to ending r }
 
 pub each-push : (records : List Fragments) (cut : Fragments) → AllByRecursion IsRecord records → IsRecord cut → AllByRecursion IsRecord (records ++ cut ∷ [])
 each-push [] cut all r = (r, tt)
@@ -161,7 +159,7 @@ serving-none w none = record {
   exact = tt;
   answered = tt;
   asked = none;
-  wire = λ t. record { each = tt; went = record { taken = sym (append-nil w.taken); coming = ([], append-nil w.coming); written = sym (append-nil w.written) } };
+  wire = record { each = tt; went = record { taken = sym (append-nil w.taken); coming = λ t. ([], append-nil w.coming); written = sym (append-nil w.written) } };
 }
 
 -- one more answer was kept, by a record that was read
@@ -179,11 +177,11 @@ asked-more since {serves} {before = before} cut one s joins t =
     subst since (sym (order-push (asked_for serves) s.records before cut one s.counted))
     (joins (asked_in serves s.records before) (asked_for serves (octets_in cut) one) (omega (arith, few-asked serves s.records before, s.count)) s.asked t)
 
--- and over a link that tells its octets
-each-more : {serves : Serving} {a b c : Wire} {records : List Fragments} {before : List Kept} {Much : List ℕ → List ℕ → Type 0} {cut : Fragments} {due : List ℕ} → WentOn serves a b records before → Exchanges Much b c cut due → AllByRecursion IsRecord (records ++ cut ∷ [])
+-- and what went over the link
+each-more : {told : Bool} {serves : Serving} {a b c : Wire} {records : List Fragments} {before : List Kept} {Much : List ℕ → List ℕ → Type 0} {cut : Fragments} {due : List ℕ} → WentOn told serves a b records before → Exchanges told Much b c cut due → AllByRecursion IsRecord (records ++ cut ∷ [])
 each-more {records = records} {cut = cut} w x = each-push records cut w.each x.is_record
 
-went-more : {serves : Serving} {a b c : Wire} (records : List Fragments) (before : List Kept) {Much : List ℕ → List ℕ → Type 0} (cut : Fragments) {due : List ℕ} → WentOn serves a b records before → (x : Exchanges Much b c cut due) → Went a c (octets_of (records ++ cut ∷ [])) (written_in serves records before ++ x.wrote)
+went-more : {told : Bool} {serves : Serving} {a b c : Wire} (records : List Fragments) (before : List Kept) {Much : List ℕ → List ℕ → Type 0} (cut : Fragments) {due : List ℕ} → WentOn told serves a b records before → (x : Exchanges told Much b c cut due) → Went told a c (octets_of (records ++ cut ∷ [])) (written_in serves records before ++ x.wrote)
 went-more records before cut w x = went-same (went-again w.went x.went) (octets_of-push records cut) refl
 
 wrote-all : (serves : Serving) (records : List Fragments) (before : List Kept) (cut : Fragments) (one : Kept) (wrote : List ℕ) → length records ≡ length before → wrote ≡ written_for serves (octets_in cut) one → written_in serves records before ++ wrote ≡ written_in serves (records ++ cut ∷ []) (before ++ one ∷ [])
@@ -198,9 +196,9 @@ wrote-part serves records before cut one wrote e h = (
       ∙ ap (λ (zs : List ℕ). take (length (written_in serves records before) + h.0) zs) (sym (order-push (written_for serves) records before cut one e))),
 )
 
-more-on-wire : {told : Bool} {earlier : List (Asked Admitted) → Type 0} {serves : Serving} {a b c : Wire} {before : List Kept} {n : ℕ} (cut : Fragments) (one : Kept) (s : Underway told earlier serves a b n before) → IsTrue told → Exchanges All b c cut (written_for serves (octets_in cut) one) → WentOn serves a c (s.records ++ cut ∷ []) (before ++ one ∷ [])
-more-on-wire {serves = serves} {before = before} cut one s t x =
-    let w = s.wire t in record {
+more-on-wire : {told : Bool} {earlier : List (Asked Admitted) → Type 0} {serves : Serving} {a b c : Wire} {before : List Kept} {n : ℕ} (cut : Fragments) (one : Kept) (s : Underway told earlier serves a b n before) → Exchanges told All b c cut (written_for serves (octets_in cut) one) → WentOn told serves a c (s.records ++ cut ∷ []) (before ++ one ∷ [])
+more-on-wire {serves = serves} {before = before} cut one s x =
+    let w = s.wire in record {
       each = each-more w x;
       went = went-same (went-more s.records before cut w x) refl (wrote-all serves s.records before cut one x.wrote s.counted x.much);
     }
@@ -216,7 +214,7 @@ serving-one {since = since} {before = before} n joins s t =
       exact = exact-more cut one s t.keeps.exact;
       answered = decided-more cut one s t.keeps.ruled;
       asked = asked-more since cut one s joins t.keeps.asked;
-      wire = λ told. more-on-wire cut one s told (t.wire told);
+      wire = more-on-wire cut one s t.wire;
     }
 
 pub serving-more : {told : Bool} {earlier then since : List (Asked Admitted) → Type 0} {serves : Serving} {a b c : Wire} {before kept : List Kept} (n : ℕ) → Joins earlier then since n → Underway told earlier serves a b n before → Turns told then serves b c None kept → Underway told since serves a c (n + 1) (before ++ kept)
@@ -266,9 +264,9 @@ stopped {told} {since = since} {serves = serves} {a = a} {c = c} {before = befor
   exact = s.exact;
   answered = all-answered ending serves s.records before t.known s.answered;
   asked = subst since (append-nil _) (joins (asked_in serves s.records before) [] (omega (arith, few-asked serves s.records before, s.count)) s.asked t.asked);
-  wire = λ tells.
-      let w = s.wire tells in
-      let r = t.wire tells in record {
+  wire =
+      let w = s.wire in
+      let r = t.wire in record {
         rest = r.octets;
         wrote = written_in serves s.records before;
         each = w.each;
@@ -293,9 +291,9 @@ faulted {since = since} {serves = serves} {before = before} n joins h s t =
       exact = exact-more cut one s t.keeps.exact;
       answered = decided-more cut one s t.keeps.ruled;
       asked = asked-more since cut one s joins t.keeps.asked;
-      wire = λ tells.
-          let w = s.wire tells in
-          let x = t.wire tells in record {
+      wire =
+          let w = s.wire in
+          let x = t.wire in record {
             rest = [];
             wrote = written_in serves s.records before ++ x.wrote;
             each = each-more w x;
@@ -329,8 +327,8 @@ lost {since = since} {serves = serves} {before = before} n joins h s t =
       exact = exact-more cut one s t.keeps.exact;
       answered = last-is s t;
       asked = asked-more since cut one s joins t.keeps.asked;
-      wire = λ tells.
-          let w = more-on-wire cut one s tells (t.wire tells) in record {
+      wire =
+          let w = more-on-wire cut one s t.wire in record {
             rest = [];
             wrote = written_in serves (s.records ++ cut ∷ []) (before ++ one ∷ []);
             each = w.each;
@@ -351,9 +349,9 @@ wanted {since = since} {serves = serves} {before = before} n joins h s t =
       exact = exact-more cut one s t.keeps.exact;
       answered = inr (last-is s t);
       asked = asked-more since cut one s joins t.keeps.asked;
-      wire = λ tells.
-          let w = s.wire tells in
-          let x = t.wire tells in record {
+      wire =
+          let w = s.wire in
+          let x = t.wire in record {
             rest = [];
             wrote = written_in serves s.records before ++ x.wrote;
             each = each-more w x;
@@ -389,8 +387,8 @@ serving-full {serves = serves} {kept = kept} s = record {
   exact = s.exact;
   answered = s.answered;
   asked = s.asked;
-  wire = λ tells.
-      let w = s.wire tells in record {
+  wire =
+      let w = s.wire in record {
         rest = [];
         wrote = written_in serves s.records kept;
         each = w.each;

@@ -1,8 +1,8 @@
--- What a served connection did, over a link that tells its octets.
+-- What a served connection did.
 use Rattle.std.specs.Prelude.{◌≡◌, ◌⊎◌, ℕ, ◌<◌, ◌≤◌, Bool, true, List, [], ◌∷◌, ◌++◌, length, take}
 use Rattle.std.specs.Prelude.{IsTrue, Option, Some, None}
 use Rattle.std.specs.List.{AllByRecursion, flat_map}
-use Rattle.sec_base.specs.Link.{Wire}
+use Rattle.sec_base.specs.Link.{Wire, IsOver}
 use Rattle.rpc_msgs.specs.Records.{Fragments, octets_in, frame, last_fragment, IsRecord, IsTooLong}
 use Rattle.rpc_msgs.specs.Records.{IsTooMany, IsFront, IsTorn, IsWhole}
 use Rattle.accept_book.specs.RecordRule.{record_ruling}
@@ -52,23 +52,25 @@ written_in serves records kept = in_order (written_for serves) records kept
 abbrev pub asked_in : Serving → List Fragments → List Kept → List (Asked Admitted)
 asked_in serves records kept = in_order (asked_for serves) records kept
 
--- `took` was taken, of what was there or came meanwhile, and `wrote` was written
-pub record Went (old new : Wire) (took wrote : List ℕ) : Type 0 where
+-- `took` was taken and `wrote` was written; where the link tells its octets, `took` is the front of
+-- what was there or came meanwhile
+pub record Went (told : Bool) (old new : Wire) (took wrote : List ℕ) : Type 0 where
   pub taken : new.taken ≡ old.taken ++ took
-  pub coming : (more : List ℕ) × (old.coming ++ more ≡ took ++ new.coming)
+  pub coming : IsTrue told → (more : List ℕ) × (old.coming ++ more ≡ took ++ new.coming)
   pub written : new.written ≡ old.written ++ wrote
 
--- what was taken behind the whole records at this end, and what was still to come; at a fault and
--- at want of memory that is no whole record, or one for whose answer there was no room
-abbrev pub Behind : ConnEnd → List ℕ → List ℕ → Type 0
-Behind Ended rest coming = (rest ≡ []) × (coming ≡ [])
-Behind LinkFault rest coming = IsFront rest
-Behind TooLong rest coming = IsTooLong rest
-Behind TooManyFragments rest coming = IsTooMany rest
-Behind Torn rest coming = IsTorn rest × (coming ≡ [])
-Behind Budget rest coming = rest ≡ []
-Behind Lost rest coming = rest ≡ []
-Behind NoMemory rest coming = IsFront rest ⊎ IsWhole rest
+-- what was taken behind the whole records at this end, where `Over` says that nothing was still to
+-- come; at a fault and at want of memory that is no whole record, or one for whose answer there was
+-- no room
+abbrev pub Behind : ConnEnd → List ℕ → Type 0 → Type 0
+Behind Ended rest Over = (rest ≡ []) × Over
+Behind LinkFault rest Over = IsFront rest
+Behind TooLong rest Over = IsTooLong rest
+Behind TooManyFragments rest Over = IsTooMany rest
+Behind Torn rest Over = IsTorn rest × Over
+Behind Budget rest Over = rest ≡ []
+Behind Lost rest Over = rest ≡ []
+Behind NoMemory rest Over = IsFront rest ⊎ IsWhole rest
 
 -- how many records there may have been at this end
 abbrev pub Counts : ConnEnd → ℕ → Type 0
@@ -152,20 +154,20 @@ IsWritten NoMemory serves records kept wrote =
     ⊎ ((last : LastWanted serves records kept)
     × (wrote ≡ written_in serves last.earlier last.before))
 
--- over a link that tells its octets: these records and a rest were taken, however they were cut
--- into reads, the end has its cause, and the replies were written
-pub record OnWire (serves : Serving) (old new : Wire) (records : List Fragments)
+-- these records and a rest were taken, however they were cut into reads, the end has its cause, and
+-- the replies were written; where the link tells its octets, they were those of the stream
+pub record OnWire (told : Bool) (serves : Serving) (old new : Wire) (records : List Fragments)
     (kept : List Kept) (ending : ConnEnd) : Type 0 where
   pub rest : List ℕ
   pub wrote : List ℕ
   pub each : AllByRecursion IsRecord records
-  pub went : Went old new (octets_of records ++ rest) wrote
-  pub behind : Behind ending rest new.coming
+  pub went : Went told old new (octets_of records ++ rest) wrote
+  pub behind : Behind ending rest (IsOver told new)
   pub replies : IsWritten ending serves records kept wrote
 
 -- each record that was read has a kept answer, `gained` says what the gate was asked for them, each
--- kept answer was asked for, and rules decided; where the link tells its octets, the records are
--- those of the stream
+-- kept answer was asked for, and rules decided; the records are those of the octets that were taken
+-- of the link
 pub record IsServed (told : Bool) (gained : List (Asked Admitted) → Type 0) (serves : Serving)
     (old new : Wire) (ending : ConnEnd) (kept : List Kept) : Type 0 where
   pub records : List Fragments
@@ -174,7 +176,7 @@ pub record IsServed (told : Bool) (gained : List (Asked Admitted) → Type 0) (s
   pub exact : AllExact serves records kept
   pub answered : IsAnswered ending serves records kept
   pub asked : gained (asked_in serves records kept)
-  pub wire : IsTrue told → OnWire serves old new records kept ending
+  pub wire : OnWire told serves old new records kept ending
 
 -- the end that a stream has, by what follows its whole records and how many they are
 abbrev pub Ends : ConnEnd → List ℕ → ℕ → Type 0

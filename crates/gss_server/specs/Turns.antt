@@ -1,10 +1,9 @@
 -- What one turn of a connection did: it read a record and wrote its reply, or the connection ended.
-use Rattle.std.specs.Prelude.{◌≡◌, ◌≢◌, ◌⊎◌, ℕ, Bool, true, IsTrue, List, [], ◌∷◌, take}
+use Rattle.std.specs.Prelude.{◌≡◌, ◌≢◌, ◌⊎◌, ℕ, Bool, true, List, [], ◌∷◌, take}
 use Rattle.std.specs.Prelude.{Option, Some, None, Result, Ok, Err}
-use Rattle.sec_base.specs.Link.{Wire}
+use Rattle.sec_base.specs.Link.{Wire, HasTaken, HasWritten, IsOver}
 use Rattle.rpc_msgs.specs.Records.{Fragments, octets_in, frame, IsRecord, IsTooLong, IsTooMany}
 use Rattle.rpc_msgs.specs.Records.{IsFront, IsTorn, IsWhole}
-use Rattle.sec_base.specs.Streams.{Took, Put}
 use Rattle.accept_book.specs.RecordShown.{Ruling, Asked}
 use Rattle.rpc_program.specs.Programs.{Serving}
 use Rattle.accept_book.specs.declared.book_answer.Admitted.{Admitted}
@@ -18,19 +17,22 @@ use Rattle.gss_server.specs.declared.connection.ConnEnd.TheVariants.{TooManyFrag
 use Rattle.gss_server.specs.declared.connection.ConnEnd.TheVariants.{NoMemory, Lost}
 
 -- a record was read, or the end of the connection came
-abbrev pub Receives : Wire → Wire → Result (List ℕ) ConnEnd → Type 0
-Receives old new (Ok octets) = (cut : Fragments) × IsRecord cut × (octets ≡ octets_in cut)
-    × Took old new (frame cut)
-Receives old new (Err Ended) = Took old new [] × (new.coming ≡ [])
-Receives old new (Err LinkFault) = (octets : List ℕ) × IsFront octets × Took old new octets
-Receives old new (Err TooLong) = (octets : List ℕ) × IsTooLong octets × Took old new octets
-Receives old new (Err TooManyFragments) = (octets : List ℕ) × IsTooMany octets × Took old new octets
-Receives old new (Err Torn) = (octets : List ℕ) × IsTorn octets × Took old new octets
-    × (new.coming ≡ [])
-Receives old new (Err Budget) = ⊥
-Receives old new (Err Lost) = ⊥
-Receives old new (Err NoMemory) = (octets : List ℕ) × (IsFront octets ⊎ IsWhole octets)
-    × Took old new octets
+abbrev pub Receives : Bool → Wire → Wire → Result (List ℕ) ConnEnd → Type 0
+Receives told old new (Ok octets) = (cut : Fragments) × IsRecord cut × (octets ≡ octets_in cut)
+    × HasTaken told old new (frame cut)
+Receives told old new (Err Ended) = HasTaken told old new [] × IsOver told new
+Receives told old new (Err LinkFault) =
+    (octets : List ℕ) × IsFront octets × HasTaken told old new octets
+Receives told old new (Err TooLong) =
+    (octets : List ℕ) × IsTooLong octets × HasTaken told old new octets
+Receives told old new (Err TooManyFragments) =
+    (octets : List ℕ) × IsTooMany octets × HasTaken told old new octets
+Receives told old new (Err Torn) =
+    (octets : List ℕ) × IsTorn octets × HasTaken told old new octets × IsOver told new
+Receives told old new (Err Budget) = ⊥
+Receives told old new (Err Lost) = ⊥
+Receives told old new (Err NoMemory) = (octets : List ℕ) × (IsFront octets ⊎ IsWhole octets)
+    × HasTaken told old new octets
 
 -- of what was due this was written: all of it, a front of it, or nothing
 abbrev pub All : List ℕ → List ℕ → Type 0
@@ -45,22 +47,23 @@ abbrev pub Nothing : List ℕ → List ℕ → Type 0
 Nothing due wrote = wrote ≡ []
 
 -- of what was due, so much was written
-pub record Puts (Much : List ℕ → List ℕ → Type 0) (old new : Wire) (due : List ℕ) : Type 0 where
+pub record Puts (told : Bool) (Much : List ℕ → List ℕ → Type 0) (old new : Wire) (due : List ℕ)
+    : Type 0 where
   pub wrote : List ℕ
   pub much : Much due wrote
-  pub put : Put old new wrote
+  pub put : HasWritten told old new wrote
 
 -- what is due was written; a front of it at a fault, and nothing at want of memory
-abbrev pub Responds : {T : Type 0} → Wire → Wire → List ℕ → Result T ConnEnd → Type 0
-Responds old new due (Ok _) = Puts All old new due
-Responds old new due (Err Ended) = ⊥
-Responds old new due (Err LinkFault) = Puts InPart old new due
-Responds old new due (Err TooLong) = ⊥
-Responds old new due (Err TooManyFragments) = ⊥
-Responds old new due (Err Torn) = ⊥
-Responds old new due (Err Budget) = ⊥
-Responds old new due (Err Lost) = Puts All old new due
-Responds old new due (Err NoMemory) = Puts Nothing old new due
+abbrev pub Responds : {T : Type 0} → Bool → Wire → Wire → List ℕ → Result T ConnEnd → Type 0
+Responds told old new due (Ok _) = Puts told All old new due
+Responds told old new due (Err Ended) = ⊥
+Responds told old new due (Err LinkFault) = Puts told InPart old new due
+Responds told old new due (Err TooLong) = ⊥
+Responds told old new due (Err TooManyFragments) = ⊥
+Responds told old new due (Err Torn) = ⊥
+Responds told old new due (Err Budget) = ⊥
+Responds told old new due (Err Lost) = Puts told All old new due
+Responds told old new due (Err NoMemory) = Puts told Nothing old new due
 
 -- the ruling of a record whose reply was written, of one behind which the connection ends, and of
 -- one whose reply was not written for want of memory
@@ -100,14 +103,14 @@ pub record Replied (told : Bool) (gained : List (Asked Admitted) → Type 0) (Is
     (Much : List ℕ → List ℕ → Type 0) (serves : Serving) (old new : Wire) (octets : List ℕ)
     (kept : List Kept) : Type 0 where
   pub keeps : Keeps gained Is serves octets kept
-  pub wire : IsTrue told → Puts Much old new (written_for serves octets keeps.one)
+  pub wire : Puts told Much old new (written_for serves octets keeps.one)
 
 -- nothing was kept, asked or written
 pub record Forgets (told : Bool) (gained : List (Asked Admitted) → Type 0) (old new : Wire)
     (kept : List Kept) : Type 0 where
   pub none : kept ≡ []
   pub asked : gained []
-  pub wire : IsTrue told → Put old new []
+  pub wire : HasWritten told old new []
 
 -- a record was answered, or the connection ended while it was: at a fault with a front of the reply
 -- written, at want of memory with nothing of it, and without a reply where what became of its call
@@ -129,12 +132,12 @@ Replies told gained serves old new octets (Some NoMemory) kept = Forgets told ga
     ⊎ Replied told gained Wanted Nothing serves old new octets kept
 
 -- this record was read, and of what is due so much was written
-pub record Exchanges (Much : List ℕ → List ℕ → Type 0) (old new : Wire) (cut : Fragments)
-    (due : List ℕ) : Type 0 where
+pub record Exchanges (told : Bool) (Much : List ℕ → List ℕ → Type 0) (old new : Wire)
+    (cut : Fragments) (due : List ℕ) : Type 0 where
   pub is_record : IsRecord cut
   pub wrote : List ℕ
   pub much : Much due wrote
-  pub went : Went old new (frame cut) wrote
+  pub went : Went told old new (frame cut) wrote
 
 -- a record was read and answered, and of its reply so much was written
 pub record Serves (told : Bool) (gained : List (Asked Admitted) → Type 0) (Is : Ruling → Type 0)
@@ -142,14 +145,13 @@ pub record Serves (told : Bool) (gained : List (Asked Admitted) → Type 0) (Is 
     0 where
   pub cut : Fragments
   pub keeps : Keeps gained Is serves (octets_in cut) kept
-  pub wire : IsTrue told
-      → Exchanges Much old new cut (written_for serves (octets_in cut) keeps.one)
+  pub wire : Exchanges told Much old new cut (written_for serves (octets_in cut) keeps.one)
 
 -- octets were read behind which the connection has this end
-pub record ReadsTo (old new : Wire) (ending : ConnEnd) : Type 0 where
+pub record ReadsTo (told : Bool) (old new : Wire) (ending : ConnEnd) : Type 0 where
   pub octets : List ℕ
-  pub behind : Behind ending octets new.coming
-  pub went : Went old new octets []
+  pub behind : Behind ending octets (IsOver told new)
+  pub went : Went told old new octets []
 
 -- no record was read and answered, and nothing was kept, asked or written
 pub record Stops (told : Bool) (gained : List (Asked Admitted) → Type 0) (old new : Wire)
@@ -159,7 +161,7 @@ pub record Stops (told : Bool) (gained : List (Asked Admitted) → Type 0) (old 
   pub early : ending ≢ Budget
   pub known : ending ≢ Lost
   pub asked : gained []
-  pub wire : IsTrue told → ReadsTo old new ending
+  pub wire : ReadsTo told old new ending
 
 -- the connection ended while a record was answered
 abbrev pub Breaks : Bool → (List (Asked Admitted) → Type 0) → Serving → Wire → Wire → ConnEnd

@@ -76,7 +76,7 @@ pub fn serve_link<L: Link, K: Keeper<Kept>, G: Gate, C: Clock, D: Draw>(
 ) -> Served<L>
     requires { L.closed link ≡ false }
     // The answers that the keeper was given are those to the records, in order, and each part of one was asked of the gate, in order; a gate that
-    // tells, and has room for two questions a record, told just these. Over a link that tells its octets, the records are those of the stream.
+    // tells, and has room for two questions a record, told just these. The records are those of the octets that were taken of the link.
     ensures served { Makes K.Keeper C.Clock D.Draw keeper.old keeper.new clock.old clock.new
         draw.old draw.new (λ kept. (result.records ≡ length kept)
         × IsServed (L.tells link) (Questions G.Gate 131072 gate.old gate.new)
@@ -188,7 +188,7 @@ fn turn<L: Link, K: Keeper<Kept>, G: Gate, C: Clock, D: Draw>(
 /// The next record, or the end of the connection.
 fn receive<L: Link>(alloc: Global, link: &mut L) -> Result<Octets, ConnEnd>
     requires unclosed { L.closed link.old ≡ false }
-    ensures told { IsTrue (L.tells link.old) → Receives (L.wire link.old) (L.wire link.new) result }
+    ensures told { Receives (L.tells link.old) (L.wire link.old) (L.wire link.new) result }
     ensures early { result ≢ Err ConnEnd.Budget }
     ensures known { result ≢ Err ConnEnd.Lost }
     ensures link_left { LinkLeft L.Link link.old link.new (IsErrOf result ConnEnd.LinkFault) }
@@ -269,8 +269,8 @@ pub fn answer_and_keep<K: Keeper<Kept>, G: Gate, C: Clock, D: Draw>(
 fn respond<L: Link>(link: &mut L, reply: &Reply) -> Result<(), ConnEnd>
     requires unclosed { L.closed link.old ≡ false }
     requires fits { Fits reply.now }
-    ensures told { IsTrue (L.tells link.old) → (ruling : Ruling) → IsReply ruling reply.now
-        → Responds (L.wire link.old) (L.wire link.new) (framed ruling.reply) result }
+    ensures told { (ruling : Ruling) → IsReply ruling reply.now → Responds (L.tells link.old)
+        (L.wire link.old) (L.wire link.new) (framed ruling.reply) result }
     ensures ruled { (ruling : Ruling) → IsReply ruling reply.now → Ruled ruling result }
     ensures link_left { LinkLeft L.Link link.old link.new (IsErrOf result ConnEnd.LinkFault) }
 {

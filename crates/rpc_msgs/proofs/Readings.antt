@@ -1,5 +1,5 @@
 -- A stream has one reading, and the call for the next record gives it.
-use Rattle.std.proofs.Common.{◌≡◌, inl, inr, ℕ, zero, suc, ◌+◌, ◌-◌, ◌%◌, ◌<◌, ◌≤◌, ◌^◌, List, [], ◌∷◌, ◌++◌, length, take, drop, refl, ap, sym, ◌∙◌, arith, append_assoc, true, false, Option, Some, None, Result, Ok, Err}
+use Rattle.std.proofs.Common.{◌≡◌, inl, inr, ℕ, zero, suc, ◌+◌, ◌-◌, ◌%◌, ◌<◌, ◌≤◌, ◌^◌, List, [], ◌∷◌, ◌++◌, length, take, drop, refl, ap, sym, ◌∙◌, arith, append_assoc, Bool, IsTrue, true, false, Option, Some, None, Result, Ok, Err}
 use Rattle.std.specs.Prelude.{nat_lt, nat_le}
 use Rattle.std.proofs.Math.Seq.{drop-append_seam, take-append_seam}
 use Rattle.std.proofs.lemmas.Nat.{from_be_bytes-to_be_bytes_4}
@@ -181,12 +181,14 @@ of-torn octets p =
     ∙ of-partial left (length p.front.earlier) (joined p.front.earlier) p.front.part (omega (arith, p.front.few)) p.front.partial))
 
 -- what was taken for an answer is how the stream begins
-pub finds : (old new : Wire) (result : Result (Option (List ℕ)) RecordRefusal) → TakesRecord old new result → Finds (first_record old.coming) result new.coming
-finds old new (Ok (Some octets)) t =
-    ap first_record t.3.coming ∙ (of-frame t.0 new.coming t.1 ∙ ap (λ (zs : List ℕ). whole zs new.coming) (sym t.2))
-finds old new (Ok None) t = ap first_record t.0 ∙ first-none
-finds old new (Err LinkFault) t = tt
-finds old new (Err TooLong) t = ap first_record t.2.coming ∙ of-too-long t.0 new.coming t.1
-finds old new (Err TooManyFragments) t = ap first_record t.2.coming ∙ of-too-many t.0 new.coming t.1
-finds old new (Err Torn) t = of-torn old.coming t.0
-finds old new (Err NoMemory) t = tt
+pub finds : (told : Bool) (old new : Wire) (result : Result (Option (List ℕ)) RecordRefusal) → IsTrue told → TakesRecord told old new result → Finds (first_record old.coming) result new.coming
+finds told old new (Ok (Some octets)) tells t =
+    ap first_record (t.3.coming tells) ∙ (of-frame t.0 new.coming t.1 ∙ ap (λ (zs : List ℕ). whole zs new.coming) (sym t.2))
+finds told old new (Ok None) tells t = ap first_record (t.0.coming tells ∙ t.1 tells) ∙ first-none
+finds told old new (Err LinkFault) tells t = tt
+finds told old new (Err TooLong) tells t = ap first_record (t.2.coming tells) ∙ of-too-long t.0 new.coming t.1
+finds told old new (Err TooManyFragments) tells t = ap first_record (t.2.coming tells) ∙ of-too-many t.0 new.coming t.1
+finds told old new (Err Torn) tells t =
+    let all : old.coming ≡ t.0 = t.2.coming tells ∙ (ap (λ (zs : List ℕ). t.0 ++ zs) (t.3 tells) ∙ append-nil t.0) in
+    ap first_record all ∙ of-torn t.0 t.1
+finds told old new (Err NoMemory) tells t = tt

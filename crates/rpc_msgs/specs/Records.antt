@@ -1,9 +1,8 @@
 -- Records of a stream, RFC 5531 section 11.
-use Rattle.std.specs.Prelude.{◌≡◌, ◌⊎◌, ℕ, ◌+◌, ◌%◌, ◌<◌, ◌≤◌, ◌^◌, List, [], ◌++◌, length, Option}
-use Rattle.std.specs.Prelude.{Some, None, Result, Ok, Err}
+use Rattle.std.specs.Prelude.{◌≡◌, ◌⊎◌, ℕ, ◌+◌, ◌%◌, ◌<◌, ◌≤◌, ◌^◌, Bool, List, [], ◌++◌, length}
+use Rattle.std.specs.Prelude.{Option, Some, None, Result, Ok, Err}
 use Rattle.std.specs.List.{flat_map}
-use Rattle.sec_base.specs.Link.{Wire}
-use Rattle.sec_base.specs.Streams.{Took}
+use Rattle.sec_base.specs.Link.{Wire, HasTaken, IsOver}
 use Rattle.rpc_msgs.specs.Words.{word}
 use Rattle.rpc_msgs.specs.declared.record.RecordRefusal.{RecordRefusal}
 use Rattle.rpc_msgs.specs.declared.record.RecordRefusal.TheVariants.{LinkFault, TooLong}
@@ -92,15 +91,18 @@ pub record IsWhole (octets : List ℕ) : Type 0 where
   pub is_record : IsRecord cut
   pub spelled : octets ≡ frame cut
 
--- what the call that reads the next record took of the stream
-abbrev pub TakesRecord : Wire → Wire → Result (Option (List ℕ)) RecordRefusal → Type 0
-TakesRecord old new (Ok (Some octets)) = (cut : Fragments) × IsRecord cut × (octets ≡ octets_in cut)
-    × Took old new (frame cut)
-TakesRecord old new (Ok None) = (old.coming ≡ []) × Took old new []
-TakesRecord old new (Err LinkFault) = (octets : List ℕ) × IsFront octets × Took old new octets
-TakesRecord old new (Err TooLong) = (octets : List ℕ) × IsTooLong octets × Took old new octets
-TakesRecord old new (Err TooManyFragments) =
-    (octets : List ℕ) × IsTooMany octets × Took old new octets
-TakesRecord old new (Err Torn) = IsTorn old.coming × Took old new old.coming
-TakesRecord old new (Err NoMemory) = (octets : List ℕ) × (IsFront octets ⊎ IsWhole octets)
-    × Took old new octets
+-- what the call that reads the next record took of the stream; it ended where the call says so
+abbrev pub TakesRecord : Bool → Wire → Wire → Result (Option (List ℕ)) RecordRefusal → Type 0
+TakesRecord told old new (Ok (Some octets)) = (cut : Fragments) × IsRecord cut
+    × (octets ≡ octets_in cut) × HasTaken told old new (frame cut)
+TakesRecord told old new (Ok None) = HasTaken told old new [] × IsOver told new
+TakesRecord told old new (Err LinkFault) =
+    (octets : List ℕ) × IsFront octets × HasTaken told old new octets
+TakesRecord told old new (Err TooLong) =
+    (octets : List ℕ) × IsTooLong octets × HasTaken told old new octets
+TakesRecord told old new (Err TooManyFragments) =
+    (octets : List ℕ) × IsTooMany octets × HasTaken told old new octets
+TakesRecord told old new (Err Torn) =
+    (octets : List ℕ) × IsTorn octets × HasTaken told old new octets × IsOver told new
+TakesRecord told old new (Err NoMemory) = (octets : List ℕ) × (IsFront octets ⊎ IsWhole octets)
+    × HasTaken told old new octets

@@ -64,8 +64,7 @@ enum Fragment {
 /// the next piece, and not for all that a header announces.
 pub fn next_record<L: Link>(alloc: Global, link: &mut L) -> Result<Option<Octets>, RecordRefusal>
     requires { L.closed link.old ≡ false }
-    ensures told { IsTrue (L.tells link.old)
-        → TakesRecord (L.wire link.old) (L.wire link.new) result }
+    ensures told { TakesRecord (L.tells link.old) (L.wire link.old) (L.wire link.new) result }
     ensures reading { IsTrue (L.tells link.old)
         → Finds (first_record (L.wire link.old).coming) result (L.wire link.new).coming }
     ensures tells { L.tells link.new ≡ L.tells link.old }
@@ -82,8 +81,7 @@ pub fn next_record<L: Link>(alloc: Global, link: &mut L) -> Result<Option<Octets
 /// The same, of which it isn't shown yet that the stream has no other reading.
 fn read_record<L: Link>(alloc: Global, link: &mut L) -> Result<Option<Octets>, RecordRefusal>
     requires { L.closed link.old ≡ false }
-    ensures told { IsTrue (L.tells link.old)
-        → TakesRecord (L.wire link.old) (L.wire link.new) result }
+    ensures told { TakesRecord (L.tells link.old) (L.wire link.old) (L.wire link.new) result }
     ensures tells { L.tells link.new ≡ L.tells link.old }
     ensures unclosed { L.closed link.new ≡ false }
     ensures fault { IsErrOf result RecordRefusal.LinkFault
@@ -113,7 +111,7 @@ fn read_fragment<L: Link>(
     requires unclosed { L.closed link.old ≡ false }
     requires size { vec_len octets.old ≤ 131072 }
     requires most { number ≤ 64 }
-    ensures told { IsTrue (L.tells link.old) → TakesFragment (L.wire link.old) (L.wire link.new)
+    ensures told { TakesFragment (L.tells link.old) (L.wire link.old) (L.wire link.new)
         octets.old.items octets.new.items number result }
     ensures size { OnOk result (vec_len octets.new ≤ 131072) }
     ensures more { result ≡ Ok Fragment.More → number < 64 }
@@ -136,8 +134,8 @@ fn read_fragment<L: Link>(
 /// Reads the header of the fragment of this number; None where the stream ends before the first one.
 fn read_header<L: Link>(link: &mut L, number: u32) -> Result<Option<u32>, RecordRefusal>
     requires { L.closed link.old ≡ false }
-    ensures told { IsTrue (L.tells link.old)
-        → TakesHeader (L.wire link.old) (L.wire link.new) number result }
+    ensures told { TakesHeader (L.tells link.old) (L.wire link.old) (L.wire link.new) number
+        result }
     ensures tells { L.tells link.new ≡ L.tells link.old }
     ensures unclosed { L.closed link.new ≡ false }
     ensures fault { IsErrOf result RecordRefusal.LinkFault
@@ -165,7 +163,7 @@ fn read_announced<L: Link>(
     requires unclosed { L.closed link.old ≡ false }
     requires size { vec_len octets.old ≤ 131072 }
     requires most { number ≤ 64 }
-    ensures told { IsTrue (L.tells link.old) → TakesAnnounced (L.wire link.old) (L.wire link.new)
+    ensures told { TakesAnnounced (L.tells link.old) (L.wire link.old) (L.wire link.new)
         octets.old.items octets.new.items number header result }
     ensures size { OnOk result (vec_len octets.new ≤ 131072) }
     ensures more { result ≡ Ok Fragment.More → number < 64 }
@@ -212,8 +210,8 @@ fn allow(number: u32, held: usize, size: usize) -> Result<(), RecordRefusal>
 pub fn write_record<L: Link>(link: &mut L, bytes: &[u8]) -> Result<(), LinkFault>
     requires unclosed { L.closed link.old ≡ false }
     requires room { length bytes.now ≤ 131072 }
-    ensures told { IsTrue (L.tells link.old)
-        → Sends (L.wire link.old) (L.wire link.new) result (last_fragment bytes.now) }
+    ensures told { Sends (L.tells link.old) (L.wire link.old) (L.wire link.new) result
+        (last_fragment bytes.now) }
     ensures tells { L.tells link.new ≡ L.tells link.old }
     ensures unclosed { L.closed link.new ≡ false }
     ensures fault { OnErr result (Rose (L.faults link.old) (L.faults link.new)) }
@@ -237,8 +235,8 @@ fn write_at_once<L: Link, const SIZE: usize>(link: &mut L, bytes: &[u8]) -> Resu
     requires unclosed { L.closed link.old ≡ false }
     requires fits { 4 + length bytes.now ≤ SIZE }
     requires small { SIZE ≤ 8192 }
-    ensures told { IsTrue (L.tells link.old)
-        → Sends (L.wire link.old) (L.wire link.new) result (last_fragment bytes.now) }
+    ensures told { Sends (L.tells link.old) (L.wire link.old) (L.wire link.new) result
+        (last_fragment bytes.now) }
     ensures tells { L.tells link.new ≡ L.tells link.old }
     ensures unclosed { L.closed link.new ≡ false }
     ensures fault { OnErr result (Rose (L.faults link.old) (L.faults link.new)) }

@@ -2,7 +2,7 @@
 
 ghost use Rattle.std.specs.Prelude.{◌≡◌, ◌≢◌, true, false, IsTrue};
 ghost use Rattle.sec_base.specs.Answers.{Rose};
-ghost use Rattle.sec_base.specs.Streams.{Put};
+ghost use Rattle.sec_base.specs.Link.{HasWritten};
 ghost use Rattle.cli_base.specs.Lines.{Says};
 ghost use Rattle.sasl_options.specs.Endings.{status_of, line_of};
 ghost use Rattle.sasl_command.specs.Runs.{unnamed};
@@ -67,9 +67,8 @@ pub fn end_link<L: Link, O: Sink>(
 ) -> SaslEnd
     requires unclosed { L.closed (link_below link.old) ≡ false }
     // Status 0 says that all that waited was written to the link below.
-    ensures left { result.status ≡ 0 → IsTrue (L.tells (link_below link.old))
-        → Put (L.wire (link_below link.old)) (L.wire (link_below link.new))
-        (written_behind link.old) }
+    ensures left { result.status ≡ 0 → HasWritten (L.tells (link_below link.old))
+        (L.wire (link_below link.old)) (L.wire (link_below link.new)) (written_behind link.old) }
     // It is the run's own status, unless the link failed.
     ensures status { result.status ≢ run.status → run.status ≡ 0 }
     ensures link_fault { result.status ≢ run.status

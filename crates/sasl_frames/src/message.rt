@@ -104,8 +104,8 @@ fn header_of(count: usize) -> [u8; 4]
 /// say. After a fault a front of it was written.
 pub fn write_message<L: Link>(link: &mut L, bytes: &[u8]) -> Result<(), LinkFault>
     requires { L.closed link.old ≡ false }
-    ensures told { IsTrue (L.tells link.old)
-        → Sends (L.wire link.old) (L.wire link.new) result (framed bytes.now) }
+    ensures told { Sends (L.tells link.old) (L.wire link.old) (L.wire link.new) result
+        (framed bytes.now) }
     ensures tells { L.tells link.new ≡ L.tells link.old }
     ensures unclosed { L.closed link.new ≡ false }
     ensures fault { OnErr result (Rose (L.faults link.old) (L.faults link.new)) }

@@ -1,34 +1,33 @@
 -- Piece after piece of what was announced.
-use Rattle.std.proofs.Common.{◌≡◌, ℕ, ◌+◌, ◌-◌, ◌<◌, ◌≤◌, false, List, [], ◌++◌, length, take, replicate, ap, sym, subst, ◌∙◌, arith, append_assoc, Result, Ok, Err}
+use Rattle.std.proofs.Common.{◌≡◌, ℕ, ◌+◌, ◌-◌, ◌<◌, ◌≤◌, Bool, IsTrue, false, List, ◌++◌, length, take, replicate, ap, sym, subst, ◌∙◌, arith, append_assoc, Result, Ok, Err}
 use Rattle.std.proofs.Math.Seq.{take-append-add}
 use Rattle.std.proofs.lemmas.List.{length-append, length-take-le, take_all, take_at, take-take, take-append-le}
-use Rattle.sec_base.specs.Link.{Wire}
-use Rattle.sec_base.specs.Streams.{Took}
+use Rattle.sec_base.specs.Link.{Wire, HasTaken, IsOver}
 use Rattle.sec_base.specs.Contents.{Grows, TakesPiece, TakesContent}
 use Rattle.sec_base.specs.declared.transfer.ContentRefusal.{ContentRefusal}
 use Rattle.sec_base.specs.declared.transfer.ContentRefusal.TheVariants.{LinkFault, NoMemory}
-use Rattle.sec_base.proofs.InARow.{took-again}
+use Rattle.sec_base.proofs.InARow.{taken-again}
 
-grows-again : {a b c : Wire} {xs ys zs part more : List ℕ} → Grows a b xs ys part → Grows b c ys zs more → Grows a c xs zs (part ++ more)
-grows-again {xs = xs} {part = part} {more = more} first then = record {
+grows-again : {told told' : Bool} {a b c : Wire} {xs ys zs part more : List ℕ} → told' ≡ told → Grows told a b xs ys part → Grows told' b c ys zs more → Grows told a c xs zs (part ++ more)
+grows-again {xs = xs} {part = part} {more = more} same first then = record {
   grown = then.grown ∙ (ap (λ (os : List ℕ). os ++ more) first.grown ∙ append_assoc xs part more);
-  took = took-again first.took then.took;
+  took = taken-again same first.took then.took;
 }
 
 -- a piece was read whole behind what came before it
-pub piece-whole : {a b : Wire} (c : Wire) {xs ys : List ℕ} (zs part : List ℕ) (left whole size count : ℕ) → length part + left ≡ whole → size ≤ left → size ≡ count → Grows a b xs ys part → TakesPiece b c ys zs size (Ok count) → (more : List ℕ) × (length more + (left - size) ≡ whole) × Grows a c xs zs more
-piece-whole c zs part left whole size count sum fits full g t =
-    (part ++ t.0, omega (arith, length-append part t.0, t.1), grows-again g t.3)
+pub piece-whole : {told told' : Bool} {a b : Wire} (c : Wire) {xs ys : List ℕ} (zs part : List ℕ) (left whole size count : ℕ) → length part + left ≡ whole → size ≤ left → size ≡ count → told' ≡ told → Grows told a b xs ys part → TakesPiece told' b c ys zs size (Ok count) → (more : List ℕ) × (length more + (left - size) ≡ whole) × Grows told a c xs zs more
+piece-whole c zs part left whole size count sum fits full same g t =
+    (part ++ t.0, omega (arith, length-append part t.0, t.1), grows-again same g t.3)
 
 -- the input ended inside a piece
-pub piece-cut : {a b : Wire} (c : Wire) {xs ys : List ℕ} (zs part : List ℕ) (left whole size count : ℕ) → length part + left ≡ whole → size ≤ left → count < size → Grows a b xs ys part → TakesPiece b c ys zs size (Ok count) → TakesContent a c xs zs whole (Ok false)
-piece-cut c zs part left whole size count sum fits less g t =
-    (part ++ t.0, omega (arith, length-append part t.0, t.1), t.2 less, grows-again g t.3)
+pub piece-cut : {told told' : Bool} {a b : Wire} (c : Wire) {xs ys : List ℕ} (zs part : List ℕ) (left whole size count : ℕ) → length part + left ≡ whole → size ≤ left → count < size → told' ≡ told → Grows told a b xs ys part → TakesPiece told' b c ys zs size (Ok count) → TakesContent told a c xs zs whole (Ok false)
+piece-cut c zs part left whole size count sum fits less same g t =
+    (part ++ t.0, omega (arith, length-append part t.0, t.1), λ told. t.2 less (subst (λ (b : Bool). IsTrue b) (sym same) told), grows-again same g t.3)
 
 -- a piece was not read
-pub piece-refused : {a b : Wire} (c : Wire) {xs ys : List ℕ} (zs part : List ℕ) (left whole size : ℕ) → length part + left ≡ whole → size ≤ left → Grows a b xs ys part → (refusal : ContentRefusal) → TakesPiece b c ys zs size (Err refusal) → TakesContent a c xs zs whole (Err refusal)
-piece-refused c zs part left whole size sum fits g LinkFault t = (part ++ t.0, omega (arith, length-append part t.0, t.1), took-again g.took t.2)
-piece-refused c zs part left whole size sum fits g NoMemory t = (part ++ t.0, omega (arith, length-append part t.0, t.1), took-again g.took t.2)
+pub piece-refused : {told told' : Bool} {a b : Wire} (c : Wire) {xs ys : List ℕ} (zs part : List ℕ) (left whole size : ℕ) → length part + left ≡ whole → size ≤ left → told' ≡ told → Grows told a b xs ys part → (refusal : ContentRefusal) → TakesPiece told' b c ys zs size (Err refusal) → TakesContent told a c xs zs whole (Err refusal)
+piece-refused c zs part left whole size sum fits same g LinkFault t = (part ++ t.0, omega (arith, length-append part t.0, t.1), taken-again same g.took t.2)
+piece-refused c zs part left whole size sum fits same g NoMemory t = (part ++ t.0, omega (arith, length-append part t.0, t.1), taken-again same g.took t.2)
 
 -- zeros behind octets, for those that are to be read
 pub behind-zeros : (before padded : List ℕ) (at more count : ℕ) → length before ≡ at → padded ≡ take (at + more) before ++ replicate count 0 → take at padded ≡ before
@@ -37,13 +36,13 @@ behind-zeros before padded at more count size e =
     ap (take at) e ∙ (ap (λ (zs : List ℕ). take at (zs ++ replicate count 0)) all ∙ take_at before (replicate count 0) at size)
 
 -- a piece in place of these was read behind what stood before them
-pub piece-behind : (a b : Wire) (before front after : List ℕ) (size most : ℕ) (r : Result ℕ ContentRefusal) → front ≡ before → size ≡ most → TakesPiece a b front after size r → TakesPiece a b before after most r
-piece-behind a b before front after size most r e f t =
-    subst (λ (n : ℕ). TakesPiece a b before after n r) f (subst (λ (zs : List ℕ). TakesPiece a b zs after size r) e t)
+pub piece-behind : (told : Bool) (a b : Wire) (before front after : List ℕ) (size most : ℕ) (r : Result ℕ ContentRefusal) → front ≡ before → size ≡ most → TakesPiece told a b front after size r → TakesPiece told a b before after most r
+piece-behind told a b before front after size most r e f t =
+    subst (λ (n : ℕ). TakesPiece told a b before after n r) f (subst (λ (zs : List ℕ). TakesPiece told a b zs after size r) e t)
 
 -- a buffer was filled, or its front, and that stands behind what was there
-pub piece-filled : (a b : Wire) (before after buffer : List ℕ) (count most : ℕ) → length buffer ≡ most → count ≤ length buffer → after ≡ before ++ take count buffer → Took a b (take count buffer) × (count < length buffer → b.coming ≡ []) → TakesPiece a b before after most (Ok count)
-piece-filled a b before after buffer count most size fits grown p =
+pub piece-filled : (told : Bool) (a b : Wire) (before after buffer : List ℕ) (count most : ℕ) → length buffer ≡ most → count ≤ length buffer → after ≡ before ++ take count buffer → HasTaken told a b (take count buffer) × (count < length buffer → IsOver told b) → TakesPiece told a b before after most (Ok count)
+piece-filled told a b before after buffer count most size fits grown p =
     (take count buffer, length-take-le count buffer fits, λ less. p.1 (omega (arith, less, size)), record { grown = grown; took = p.0 })
 
 -- the front of what a buffer is part of, up to what was read

@@ -4,3 +4,4 @@ pub mod GivenInMemory
 pub mod InARow
 pub mod Pieces
 pub mod Shelves
+mod Walks

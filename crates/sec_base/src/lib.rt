@@ -21,6 +21,7 @@ mod port;
 mod shelf;
 mod sink;
 mod text;
+mod trail;
 pub mod transfer;
 
 pub use clock::Clock;
@@ -41,3 +42,4 @@ pub use port::{Port, PortFault};
 pub use shelf::{LoadRefusal, NamedFile, Shelf};
 pub use sink::{Sink, SinkFault};
 pub use text::Text;
+pub use trail::Trail;

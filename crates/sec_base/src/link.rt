@@ -1,6 +1,6 @@
 //! A stream of octets in both directions, as a TCP connection is one.
 
-ghost use Rattle.std.specs.Prelude.{◌≡◌, ℕ, ◌<◌, ◌≤◌, Bool, true, false, length, IsTrue, IfOk};
+ghost use Rattle.std.specs.Prelude.{◌≡◌, ℕ, ◌<◌, ◌≤◌, Bool, true, false, length, IfOk};
 ghost use Rattle.std.specs.Prelude.{OnErr, OnOk};
 ghost use Rattle.sec_base.specs.Answers.{Rose};
 ghost use Rattle.sec_base.specs.Link.{Wire, Reads, Writes};
@@ -11,8 +11,8 @@ pub struct LinkFault;
 
 /// A stream of octets in both directions.
 ///
-/// `faults` counts the calls that failed, and a read or a write that answers well leaves it where it was. Where the link tells its octets, `wire` has those that were taken, those still
-/// to come and those that were written. `closed` says whether `close` was called, and `closes` what it makes of the link.
+/// `faults` counts the calls that failed, and a read or a write that answers well leaves it where it was. `wire` has the octets that were taken
+/// and those that were written, of each link, and those still to come where the link tells its octets. `closed` says whether `close` was called, and `closes` what it makes of the link.
 pub trait Link {
     ghost faults: { Self → ℕ };
 
@@ -29,8 +29,7 @@ pub trait Link {
     fn read(&mut self, buf: &mut [u8]) -> Result<usize, LinkFault>
         requires { closed self.old ≡ false }
         ensures count { IfOk result (λ count. count ≤ length buf.old) }
-        ensures told { IsTrue (tells self.old)
-            → Reads (wire self.old) (wire self.new) result buf.new }
+        ensures told { Reads (tells self.old) (wire self.old) (wire self.new) result buf.new }
         ensures tells { tells self.new ≡ tells self.old }
         ensures unclosed { closed self.new ≡ false }
         ensures fault { OnErr result (Rose (faults self.old) (faults self.new)) }
@@ -42,8 +41,7 @@ pub trait Link {
         requires { closed self.old ≡ false }
         ensures count { IfOk result (λ count. count ≤ length buf.now) }
         ensures some { IfOk result (λ count. 0 < length buf.now → 0 < count) }
-        ensures told { IsTrue (tells self.old)
-            → Writes (wire self.old) (wire self.new) result buf.now }
+        ensures told { Writes (tells self.old) (wire self.old) (wire self.new) result buf.now }
         ensures tells { tells self.new ≡ tells self.old }
         ensures unclosed { closed self.new ≡ false }
         ensures fault { OnErr result (Rose (faults self.old) (faults self.new)) }

@@ -135,9 +135,8 @@ impl Link for MemLink {
     fn read(&mut self, buf: &mut [u8]) -> Result<usize, LinkFault>
         requires { ⟦<MemLink as Link>⟧.closed self.old ≡ false }
         ensures count { IfOk result (λ count. count ≤ length buf.old) }
-        ensures told { IsTrue (⟦<MemLink as Link>⟧.tells self.old)
-            → Reads (⟦<MemLink as Link>⟧.wire self.old)
-            (⟦<MemLink as Link>⟧.wire self.new) result buf.new }
+        ensures told { Reads (⟦<MemLink as Link>⟧.tells self.old)
+            (⟦<MemLink as Link>⟧.wire self.old) (⟦<MemLink as Link>⟧.wire self.new) result buf.new }
         ensures tells { ⟦<MemLink as Link>⟧.tells self.new ≡ ⟦<MemLink as Link>⟧.tells self.old }
         ensures unclosed { ⟦<MemLink as Link>⟧.closed self.new ≡ false }
         ensures fault { OnErr result
@@ -169,9 +168,8 @@ impl Link for MemLink {
         requires { ⟦<MemLink as Link>⟧.closed self.old ≡ false }
         ensures count { IfOk result (λ count. count ≤ length buf.now) }
         ensures some { IfOk result (λ count. 0 < length buf.now → 0 < count) }
-        ensures told { IsTrue (⟦<MemLink as Link>⟧.tells self.old)
-            → Writes (⟦<MemLink as Link>⟧.wire self.old)
-            (⟦<MemLink as Link>⟧.wire self.new) result buf.now }
+        ensures told { Writes (⟦<MemLink as Link>⟧.tells self.old)
+            (⟦<MemLink as Link>⟧.wire self.old) (⟦<MemLink as Link>⟧.wire self.new) result buf.now }
         ensures tells { ⟦<MemLink as Link>⟧.tells self.new ≡ ⟦<MemLink as Link>⟧.tells self.old }
         ensures unclosed { ⟦<MemLink as Link>⟧.closed self.new ≡ false }
         ensures fault { OnErr result

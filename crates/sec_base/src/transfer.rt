@@ -1,7 +1,7 @@
 //! Whole buffers through a link, however its reads and writes cut them.
 
 ghost use Rattle.std.specs.Prelude.{◌≡◌, ◌+◌, ◌-◌, ◌^◌, ◌<◌, ◌≤◌, true, false, length, take};
-ghost use Rattle.std.specs.Prelude.{vec_len, IsTrue, Ok, IfOk, OnOk, OnErr, IsErrOf};
+ghost use Rattle.std.specs.Prelude.{vec_len, Ok, IfOk, OnOk, OnErr, IsErrOf};
 ghost use Rattle.sec_base.specs.Answers.{Rose};
 ghost use Rattle.sec_base.specs.Contents.{TakesContent, TakesPiece};
 ghost use Rattle.sec_base.specs.Streams.{Fills, Sends};
@@ -24,8 +24,7 @@ pub enum ContentRefusal {
 pub fn fill<L: Link>(link: &mut L, buf: &mut [u8]) -> Result<usize, LinkFault>
     requires { L.closed link.old ≡ false }
     ensures count { IfOk result (λ count. count ≤ length buf.old) }
-    ensures told { IsTrue (L.tells link.old)
-        → Fills (L.wire link.old) (L.wire link.new) result buf.new }
+    ensures told { Fills (L.tells link.old) (L.wire link.old) (L.wire link.new) result buf.new }
     ensures tells { L.tells link.new ≡ L.tells link.old }
     ensures unclosed { L.closed link.new ≡ false }
     ensures fault { OnErr result (Rose (L.faults link.old) (L.faults link.new)) }
@@ -46,8 +45,7 @@ pub fn fill<L: Link>(link: &mut L, buf: &mut [u8]) -> Result<usize, LinkFault>
 /// Writes all of `octets`.
 pub fn send<L: Link>(link: &mut L, octets: &[u8]) -> Result<(), LinkFault>
     requires { L.closed link.old ≡ false }
-    ensures told { IsTrue (L.tells link.old)
-        → Sends (L.wire link.old) (L.wire link.new) result octets.now }
+    ensures told { Sends (L.tells link.old) (L.wire link.old) (L.wire link.new) result octets.now }
     ensures tells { L.tells link.new ≡ L.tells link.old }
     ensures unclosed { L.closed link.new ≡ false }
     ensures fault { OnErr result (Rose (L.faults link.old) (L.faults link.new)) }
@@ -73,7 +71,7 @@ pub fn read_content<L: Link>(
 ) -> Result<bool, ContentRefusal>
     requires unclosed { L.closed link.old ≡ false }
     requires room { vec_len octets.old + length < 2 ^ 63 }
-    ensures told { IsTrue (L.tells link.old) → TakesContent (L.wire link.old) (L.wire link.new)
+    ensures told { TakesContent (L.tells link.old) (L.wire link.old) (L.wire link.new)
         octets.old.items octets.new.items length result }
     ensures size { result ≡ Ok true → vec_len octets.new ≡ vec_len octets.old + length }
     ensures tells { L.tells link.new ≡ L.tells link.old }
@@ -104,7 +102,7 @@ fn read_piece<L: Link>(
 ) -> Result<usize, ContentRefusal>
     requires unclosed { L.closed link.old ≡ false }
     requires room { vec_len octets.old + length < 2 ^ 63 }
-    ensures told { IsTrue (L.tells link.old) → TakesPiece (L.wire link.old) (L.wire link.new)
+    ensures told { TakesPiece (L.tells link.old) (L.wire link.old) (L.wire link.new)
         octets.old.items octets.new.items length result }
     ensures size { IfOk result
         (λ count. (count ≤ length) × (vec_len octets.new ≡ vec_len octets.old + count)) }
@@ -131,7 +129,7 @@ fn fill_from<L: Link>(
 ) -> Result<usize, ContentRefusal>
     requires unclosed { L.closed link.old ≡ false }
     requires within { at ≤ vec_len octets.old }
-    ensures told { IsTrue (L.tells link.old) → TakesPiece (L.wire link.old) (L.wire link.new)
+    ensures told { TakesPiece (L.tells link.old) (L.wire link.old) (L.wire link.new)
         (take at octets.old.items) octets.new.items (vec_len octets.old - at) result }
     ensures size { IfOk result
         (λ count. (at + count ≤ vec_len octets.old) × (vec_len octets.new ≡ at + count)) }

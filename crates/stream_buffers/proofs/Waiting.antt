@@ -1,5 +1,5 @@
 -- Whether octets wait that were read ahead, and what is written before others are read.
-use Rattle.std.proofs.Common.{◌≡◌, ℕ, ◌+◌, ◌-◌, ◌≤◌, ◌==◌, inl, inr, true, false, List, ◌++◌, length, take, drop, ap, refl, sym, ◌∙◌, arith, Result, Ok, Err, OnOk}
+use Rattle.std.proofs.Common.{◌≡◌, ℕ, ◌+◌, ◌-◌, ◌≤◌, ◌==◌, inl, inr, Bool, true, false, List, ◌++◌, length, take, drop, ap, refl, sym, ◌∙◌, arith, Result, Ok, Err, OnOk}
 use Rattle.std.proofs.Math.Seq.{take-add}
 use Rattle.std.proofs.lemmas.Bool.{cases_lt}
 use Rattle.std.proofs.lemmas.Bool.Decides.{nat_tests}
@@ -34,9 +34,9 @@ moved-on octets lent copied rest at end count same is fits within =
     ap (λ (n : ℕ). take n (drop at octets)) more ∙ (take-add count (end - (at + count)) (drop at octets) ∙ rw (front, left) refl)
 
 -- what was sent stands behind what was written
-pub sent-written : {T E : Type 0} (a b : Wire) (result : Result T E) (octets : List ℕ) → Sends a b result octets → OnOk result (b.written ≡ a.written ++ octets)
-sent-written a b (Ok t) octets p = p.written
-sent-written a b (Err e) octets p = tt
+pub sent-written : {T E : Type 0} (told : Bool) (a b : Wire) (result : Result T E) (octets : List ℕ) → Sends told a b result octets → OnOk result (b.written ≡ a.written ++ octets)
+sent-written told a b (Ok t) octets p = p.written
+sent-written told a b (Err e) octets p = tt
 
 -- what holds in any case
 pub on-ok : {T E P : Type 0} (result : Result T E) → P → OnOk result P

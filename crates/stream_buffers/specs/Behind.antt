@@ -1,8 +1,7 @@
 -- Octets for a link that wait to be written.
-use Rattle.std.specs.Prelude.{◌≡◌, ℕ, List, [], ◌++◌, take, Option, Some, None}
+use Rattle.std.specs.Prelude.{◌≡◌, ℕ, Bool, List, [], ◌++◌, take, Option, Some, None}
 use Rattle.sec_base.specs.Answers.{Rose}
-use Rattle.sec_base.specs.Link.{Wire}
-use Rattle.sec_base.specs.Streams.{Put}
+use Rattle.sec_base.specs.Link.{Wire, HasWritten}
 use Rattle.stream_buffers.specs.declared.behind.Behind.{Behind}
 
 -- those that wait, in order
@@ -22,6 +21,7 @@ pub record Queues (old new : Wire) (before after octets : List ℕ) : Type 0 whe
 
 -- these octets were written before the end, all of them unless the count of faults rose, and then a
 -- front of them
-pub record LetGo (old new : Wire) (faults faults' : ℕ) (octets : List ℕ) : Type 0 where
-  pub front : (count : ℕ) × Put old new (take count octets)
-  pub whole : (Rose faults faults' → ⊥) → Put old new octets
+pub record LetGo (told : Bool) (old new : Wire) (faults faults' : ℕ) (octets : List ℕ) : Type 0
+  where
+    pub front : (count : ℕ) × HasWritten told old new (take count octets)
+    pub whole : (Rose faults faults' → ⊥) → HasWritten told old new octets

@@ -1,7 +1,7 @@
 //! Octets of a link that were read before they were asked for.
 
 ghost use Rattle.std.specs.Prelude.{◌≡◌, ◌++◌, ◌==◌, ◌≤◌, false, [], length, take, min, vec_len};
-ghost use Rattle.std.specs.Prelude.{IsTrue, IfOk, OnOk, OnErr};
+ghost use Rattle.std.specs.Prelude.{IfOk, OnOk, OnErr};
 ghost use Rattle.sec_base.specs.Answers.{Rose};
 ghost use Rattle.sec_base.specs.Link.{Reads};
 
@@ -25,10 +25,8 @@ pub(crate) struct Ahead {
 pub(crate) fn read_from<L: Link>(link: &mut L, buf: &mut [u8]) -> Result<usize, LinkFault>
     requires { L.closed link.old ≡ false }
     ensures count { IfOk result (λ count. count ≤ length buf.old) }
-    ensures told { IsTrue (L.tells link.old)
-        → Reads (L.wire link.old) (L.wire link.new) result buf.new }
-    ensures written { IsTrue (L.tells link.old)
-        → (L.wire link.new).written ≡ (L.wire link.old).written }
+    ensures told { Reads (L.tells link.old) (L.wire link.old) (L.wire link.new) result buf.new }
+    ensures written { (L.wire link.new).written ≡ (L.wire link.old).written }
     ensures unclosed { L.closed link.new ≡ false }
     ensures fault { OnErr result (Rose (L.faults link.old) (L.faults link.new)) }
     ensures steady { OnOk result (L.faults link.new ≡ L.faults link.old) }
@@ -82,10 +80,9 @@ impl Ahead {
         requires unclosed { L.closed link.old ≡ false }
         ensures unclosed { L.closed link.new ≡ false }
         ensures none { OnErr result (waiting self.new ≡ []) }
-        ensures filled { IsTrue (L.tells link.old) → OnOk result ((L.wire link.new).taken
+        ensures filled { OnOk result ((L.wire link.new).taken
             ≡ (L.wire link.old).taken ++ waiting self.new) }
-        ensures written { IsTrue (L.tells link.old)
-            → (L.wire link.new).written ≡ (L.wire link.old).written }
+        ensures written { (L.wire link.new).written ≡ (L.wire link.old).written }
         ensures fault { OnErr result (Rose (L.faults link.old) (L.faults link.new)) }
         ensures steady { OnOk result (L.faults link.new ≡ L.faults link.old) }
         ensures faults { L.faults link.old ≤ L.faults link.new }

@@ -1,7 +1,7 @@
 //! Octets for a link that wait to be written.
 
 ghost use Rattle.std.specs.Prelude.{◌≡◌, ◌+◌, ◌++◌, ◌==◌, ◌≤◌, false, [], length, take, nat_le};
-ghost use Rattle.std.specs.Prelude.{vec_len, IsTrue, OnOk, OnErr};
+ghost use Rattle.std.specs.Prelude.{vec_len, OnOk, OnErr};
 ghost use Rattle.sec_base.specs.Answers.{Rose};
 ghost use Rattle.sec_base.specs.Streams.{Sends};
 
@@ -69,8 +69,8 @@ impl Behind {
     pub(crate) fn flush<L: Link>(&mut self, link: &mut L) -> Result<(), LinkFault>
         requires { L.closed link.old ≡ false }
         ensures none { unwritten self.new ≡ [] }
-        ensures told { IsTrue (L.tells link.old)
-            → Sends (L.wire link.old) (L.wire link.new) result (unwritten self.old) }
+        ensures told { Sends (L.tells link.old) (L.wire link.old) (L.wire link.new) result
+            (unwritten self.old) }
         ensures tells { L.tells link.new ≡ L.tells link.old }
         ensures unclosed { L.closed link.new ≡ false }
         ensures fault { OnErr result (Rose (L.faults link.old) (L.faults link.new)) }

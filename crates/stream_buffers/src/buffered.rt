@@ -1,7 +1,7 @@
 //! Links that read ahead and write behind, for those whose reads and writes are calls of the system.
 
 ghost use Rattle.std.specs.Prelude.{◌≡◌, ◌<◌, ◌≤◌, ◌==◌, ◌++◌, true, false, [], length, take};
-ghost use Rattle.std.specs.Prelude.{IsTrue, IfOk, OnOk, OnErr};
+ghost use Rattle.std.specs.Prelude.{IfOk, OnOk, OnErr};
 ghost use Rattle.sec_base.specs.Answers.{Rose};
 ghost use Rattle.sec_base.specs.Link.{Reads, Writes};
 ghost use Rattle.sec_base.specs.Streams.{Sends};
@@ -10,19 +10,22 @@ ghost use Rattle.stream_buffers.specs.Behind.{held, unwritten, Queues, LetGo};
 
 use crate::ahead::{Ahead, ROOM, read_from};
 use crate::behind::Behind;
-use sec_base::{Link, LinkFault, Port, PortFault};
+use sec_base::{Link, LinkFault, Port, PortFault, Trail};
 use std::alloc::Global;
 
 /// A link that reads ahead, as many octets as are there and fit into 4,096, where fewer are wanted; where as many are wanted and none
 /// wait, they are read to where they are wanted. It writes behind: up to 8,192 octets wait until the link below is read, or closed, or
 /// until more come, so that the replies to calls that came together go out together. Where there was no memory for either, and once it is closed, it keeps
-/// none. A write that fails late is answered by the call that it was late for. It tells nothing of its octets.
+/// none. A write that fails late is answered by the call that it was late for. What it took and wrote is what its calls were asked and answered; it
+/// tells nothing of octets to come.
 #[derive(Drop)]
 pub struct Buffered<L: Link> {
     link: L,
     ahead: Option<Ahead>,
     behind: Option<Behind>,
     may_wait: bool,
+    taken: Trail,
+    written: Trail,
     ghost unclosed: { may_wait ≡ true → L.closed link ≡ false },
     ghost idle: { may_wait ≡ false → held behind ≡ [] },
 }
@@ -31,11 +34,10 @@ pub struct Buffered<L: Link> {
 fn read_by<L: Link>(ahead: &mut Ahead, link: &mut L, buf: &mut [u8]) -> Result<usize, LinkFault>
     requires { L.closed link.old ≡ false }
     ensures count { IfOk result (λ count. count ≤ length buf.old) }
-    ensures given { IsTrue (L.tells link.old) → IfOk result (λ count. Gives (L.wire link.old)
-        (L.wire link.new) (waiting ahead.old) (waiting ahead.new) (take count buf.new)) }
+    ensures given { IfOk result (λ count. Gives (L.wire link.old) (L.wire link.new)
+        (waiting ahead.old) (waiting ahead.new) (take count buf.new)) }
     ensures unclosed { L.closed link.new ≡ false }
-    ensures written { IsTrue (L.tells link.old)
-        → (L.wire link.new).written ≡ (L.wire link.old).written }
+    ensures written { (L.wire link.new).written ≡ (L.wire link.old).written }
     ensures fault { OnErr result (Rose (L.faults link.old) (L.faults link.new)) }
     ensures steady { OnOk result (L.faults link.new ≡ L.faults link.old) }
     ensures faults { L.faults link.old ≤ L.faults link.new }
@@ -56,7 +58,7 @@ fn write_by<L: Link>(behind: &mut Behind, link: &mut L, buf: &[u8]) -> Result<us
     requires { L.closed link.old ≡ false }
     ensures count { IfOk result (λ count. count ≤ length buf.now) }
     ensures some { IfOk result (λ count. 0 < length buf.now → 0 < count) }
-    ensures in_order { IsTrue (L.tells link.old) → IfOk result
+    ensures in_order { IfOk result
         (λ count. Queues (L.wire link.old) (L.wire link.new) (unwritten behind.old)
         (unwritten behind.new) (take count buf.now)) }
     ensures unclosed { L.closed link.new ≡ false }
@@ -90,6 +92,8 @@ impl<L: Link> Buffered<L> {
             ahead: Ahead::none(alloc),
             behind: Behind::none(alloc),
             may_wait: false,
+            taken: Trail::new(),
+            written: Trail::new(),
         }
     }
 
@@ -108,8 +112,9 @@ impl<L: Link> Buffered<L> {
         requires { L.closed self.old.link ≡ false }
         ensures none { held self.new.behind ≡ [] }
         ensures ahead { self.new.ahead ≡ self.old.ahead }
-        ensures told { IsTrue (L.tells self.old.link)
-            → Sends (L.wire self.old.link) (L.wire self.new.link) result (held self.old.behind) }
+        ensures told { Sends (L.tells self.old.link) (L.wire self.old.link) (L.wire self.new.link)
+            result (held self.old.behind) }
+        ensures trails { (self.new.taken ≡ self.old.taken) × (self.new.written ≡ self.old.written) }
         ensures tells { L.tells self.new.link ≡ L.tells self.old.link }
         ensures unclosed { L.closed self.new.link ≡ false }
         ensures fault { OnErr result (Rose (L.faults self.old.link) (L.faults self.new.link)) }
@@ -127,6 +132,7 @@ impl<L: Link> Buffered<L> {
     fn shut(&mut self)
         requires { held self.old.behind ≡ [] }
         ensures told { L.wire self.new.link ≡ L.wire self.old.link }
+        ensures trails { (self.new.taken ≡ self.old.taken) × (self.new.written ≡ self.old.written) }
         ensures closed { L.closed self.new.link ≡ true }
         ensures none { held self.new.behind ≡ [] }
         ensures faults { L.faults self.old.link ≤ L.faults self.new.link }
@@ -141,9 +147,8 @@ impl<L: Link> Buffered<L> {
     /// answered.
     pub fn end(&mut self) -> Result<(), LinkFault>
         requires { L.closed (link_below self.old) ≡ false }
-        ensures sent { IsTrue (L.tells (link_below self.old))
-            → Sends (L.wire (link_below self.old)) (L.wire (link_below self.new)) result
-            (written_behind self.old) }
+        ensures sent { Sends (L.tells (link_below self.old)) (L.wire (link_below self.old))
+            (L.wire (link_below self.new)) result (written_behind self.old) }
         ensures closed { L.closed (link_below self.new) ≡ true }
         ensures fault { OnErr result
             (Rose (L.faults (link_below self.old)) (L.faults (link_below self.new))) }
@@ -158,10 +163,10 @@ impl<L: Link> Buffered<L> {
     fn drain(&mut self) -> Result<(), LinkFault>
         requires { L.closed self.old.link ≡ false }
         ensures ahead { self.new.ahead ≡ self.old.ahead }
-        ensures taken { IsTrue (L.tells self.old.link)
-            → (L.wire self.new.link).taken ≡ (L.wire self.old.link).taken }
+        ensures taken { (L.wire self.new.link).taken ≡ (L.wire self.old.link).taken }
+        ensures trails { (self.new.taken ≡ self.old.taken) × (self.new.written ≡ self.old.written) }
         ensures none { waiting_in self.old.ahead ≡ [] → held self.new.behind ≡ [] }
-        ensures written { IsTrue (L.tells self.old.link) → waiting_in self.old.ahead ≡ []
+        ensures written { waiting_in self.old.ahead ≡ []
             → OnOk result ((L.wire self.new.link).written
             ≡ (L.wire self.old.link).written ++ held self.old.behind) }
         ensures tells { L.tells self.new.link ≡ L.tells self.old.link }
@@ -180,12 +185,11 @@ impl<L: Link> Buffered<L> {
     fn give(&mut self, buf: &mut [u8]) -> Result<usize, LinkFault>
         requires { L.closed self.old.link ≡ false }
         ensures count { IfOk result (λ count. count ≤ length buf.old) }
-        ensures given { IsTrue (L.tells self.old.link) → IfOk result
-            (λ count. Gives (L.wire self.old.link) (L.wire self.new.link)
+        ensures given { IfOk result (λ count. Gives (L.wire self.old.link) (L.wire self.new.link)
             (waiting_in self.old.ahead) (waiting_in self.new.ahead) (take count buf.new)) }
         ensures behind { held self.new.behind ≡ held self.old.behind }
-        ensures written { IsTrue (L.tells self.old.link)
-            → (L.wire self.new.link).written ≡ (L.wire self.old.link).written }
+        ensures trails { (self.new.taken ≡ self.old.taken) × (self.new.written ≡ self.old.written) }
+        ensures written { (L.wire self.new.link).written ≡ (L.wire self.old.link).written }
         ensures unclosed { L.closed self.new.link ≡ false }
         ensures fault { OnErr result (Rose (L.faults self.old.link) (L.faults self.new.link)) }
         ensures steady { OnOk result (L.faults self.new.link ≡ L.faults self.old.link) }
@@ -198,6 +202,47 @@ impl<L: Link> Buffered<L> {
             _ => read_from(&mut self.link, buf),
         }
     }
+
+    /// Gives the next octets. Before the link below is asked, what waits to be written is written to it.
+    fn fetch(&mut self, buf: &mut [u8]) -> Result<usize, LinkFault>
+        requires { L.closed self.old.link ≡ false }
+        ensures count { IfOk result (λ count. count ≤ length buf.old) }
+        ensures given { IfOk result (λ count. Gives (L.wire self.old.link) (L.wire self.new.link)
+            (waiting_in self.old.ahead) (waiting_in self.new.ahead) (take count buf.new)) }
+        ensures drained { waiting_in self.old.ahead ≡ [] → held self.new.behind ≡ [] }
+        ensures written { waiting_in self.old.ahead ≡ []
+            → OnOk result ((L.wire self.new.link).written
+            ≡ (L.wire self.old.link).written ++ held self.old.behind) }
+        ensures trails { (self.new.taken ≡ self.old.taken) × (self.new.written ≡ self.old.written) }
+        ensures unclosed { L.closed self.new.link ≡ false }
+        ensures fault { OnErr result (Rose (L.faults self.old.link) (L.faults self.new.link)) }
+        ensures steady { OnOk result (L.faults self.new.link ≡ L.faults self.old.link) }
+        ensures faults { L.faults self.old.link ≤ L.faults self.new.link }
+    {
+        self.drain()?;
+        self.give(buf)
+    }
+
+    /// Takes octets that are to be written, as many first ones as it answers.
+    fn pass(&mut self, buf: &[u8]) -> Result<usize, LinkFault>
+        requires { L.closed self.old.link ≡ false }
+        ensures count { IfOk result (λ count. count ≤ length buf.now) }
+        ensures some { IfOk result (λ count. 0 < length buf.now → 0 < count) }
+        ensures queued { IfOk result (λ count. Queues (L.wire self.old.link)
+            (L.wire self.new.link) (held self.old.behind) (held self.new.behind)
+            (take count buf.now)) }
+        ensures trails { (self.new.taken ≡ self.old.taken) × (self.new.written ≡ self.old.written) }
+        ensures unclosed { L.closed self.new.link ≡ false }
+        ensures fault { OnErr result (Rose (L.faults self.old.link) (L.faults self.new.link)) }
+        ensures steady { OnOk result (L.faults self.new.link ≡ L.faults self.old.link) }
+        ensures faults { L.faults self.old.link ≤ L.faults self.new.link }
+    {
+        self.may_wait = true;
+        match &mut self.behind {
+            Some(behind) => write_by(behind, &mut self.link, buf),
+            None => self.link.write(buf),
+        }
+    }
 }
 
 impl<L: Link> Link for Buffered<L> {
@@ -208,7 +253,11 @@ impl<L: Link> Link for Buffered<L> {
 
     ghost tells = { λ _. false };
 
-    ghost wire = { λ _. record { taken = []; coming = []; written = [] } };
+    ghost wire = { λ b. record {
+      taken = b.taken.octets;
+      coming = [];
+      written = b.written.octets;
+    } };
 
     ghost closed = { λ b. L.closed b.link };
 
@@ -218,8 +267,8 @@ impl<L: Link> Link for Buffered<L> {
     fn read(&mut self, buf: &mut [u8]) -> Result<usize, LinkFault>
         requires { ⟦<Buffered<L> as Link>⟧.closed self.old ≡ false }
         ensures count { IfOk result (λ count. count ≤ length buf.old) }
-        ensures told { IsTrue (⟦<Buffered<L> as Link>⟧.tells self.old)
-            → Reads (⟦<Buffered<L> as Link>⟧.wire self.old) (⟦<Buffered<L> as Link>⟧.wire self.new)
+        ensures told { Reads (⟦<Buffered<L> as Link>⟧.tells self.old)
+            (⟦<Buffered<L> as Link>⟧.wire self.old) (⟦<Buffered<L> as Link>⟧.wire self.new)
             result buf.new }
         ensures tells { ⟦<Buffered<L> as Link>⟧.tells self.new
             ≡ ⟦<Buffered<L> as Link>⟧.tells self.old }
@@ -231,25 +280,26 @@ impl<L: Link> Link for Buffered<L> {
         ensures faults { ⟦<Buffered<L> as Link>⟧.faults self.old
             ≤ ⟦<Buffered<L> as Link>⟧.faults self.new }
         // the octets are those that were taken of the link below, once and in order
-        ensures given { IsTrue (L.tells (link_below self.old)) → IfOk result
+        ensures given { IfOk result
             (λ count. Gives (L.wire (link_below self.old)) (L.wire (link_below self.new))
             (read_ahead self.old) (read_ahead self.new) (take count buf.new)) }
         // before the link below is asked, what waits to be written is written to it
         ensures drained { read_ahead self.old ≡ [] → written_behind self.new ≡ [] }
-        ensures written { IsTrue (L.tells (link_below self.old)) → read_ahead self.old ≡ []
+        ensures written { read_ahead self.old ≡ []
             → OnOk result ((L.wire (link_below self.new)).written
             ≡ (L.wire (link_below self.old)).written ++ written_behind self.old) }
     {
-        self.drain()?;
-        self.give(buf)
+        let count = self.fetch(buf)?;
+        self.taken = self.taken.then(&buf[..count]);
+        Ok(count)
     }
 
     fn write(&mut self, buf: &[u8]) -> Result<usize, LinkFault>
         requires { ⟦<Buffered<L> as Link>⟧.closed self.old ≡ false }
         ensures count { IfOk result (λ count. count ≤ length buf.now) }
         ensures some { IfOk result (λ count. 0 < length buf.now → 0 < count) }
-        ensures told { IsTrue (⟦<Buffered<L> as Link>⟧.tells self.old)
-            → Writes (⟦<Buffered<L> as Link>⟧.wire self.old) (⟦<Buffered<L> as Link>⟧.wire self.new)
+        ensures told { Writes (⟦<Buffered<L> as Link>⟧.tells self.old)
+            (⟦<Buffered<L> as Link>⟧.wire self.old) (⟦<Buffered<L> as Link>⟧.wire self.new)
             result buf.now }
         ensures tells { ⟦<Buffered<L> as Link>⟧.tells self.new
             ≡ ⟦<Buffered<L> as Link>⟧.tells self.old }
@@ -261,15 +311,13 @@ impl<L: Link> Link for Buffered<L> {
         ensures faults { ⟦<Buffered<L> as Link>⟧.faults self.old
             ≤ ⟦<Buffered<L> as Link>⟧.faults self.new }
         // what was taken is written to the link below or waits, behind what waited, once and in order
-        ensures queued { IsTrue (L.tells (link_below self.old)) → IfOk result
+        ensures queued { IfOk result
             (λ count. Queues (L.wire (link_below self.old)) (L.wire (link_below self.new))
             (written_behind self.old) (written_behind self.new) (take count buf.now)) }
     {
-        self.may_wait = true;
-        match &mut self.behind {
-            Some(behind) => write_by(behind, &mut self.link, buf),
-            None => self.link.write(buf),
-        }
+        let count = self.pass(buf)?;
+        self.written = self.written.then(&buf[..count]);
+        Ok(count)
     }
 
     fn close(&mut self)
@@ -282,7 +330,7 @@ impl<L: Link> Link for Buffered<L> {
         ensures faults { ⟦<Buffered<L> as Link>⟧.faults self.old
             ≤ ⟦<Buffered<L> as Link>⟧.faults self.new }
         // what waits is written to the link below, or a front of it where that fails
-        ensures sent { IsTrue (L.tells (link_below self.old)) → LetGo
+        ensures sent { LetGo (L.tells (link_below self.old))
             (L.wire (link_below self.old)) (L.wire (link_below self.new))
             (L.faults (link_below self.old)) (L.faults (link_below self.new))
             (written_behind self.old) }

@@ -2,6 +2,7 @@
 
 ghost use Rattle.std.specs.Prelude.{◌≡◌, ◌≤◌, false, length};
 ghost use Rattle.system_devices.specs.Devices.{dialed_address};
+ghost use Rattle.system_devices.specs.Moves.{wire_of};
 
 use crate::tcp_link::TcpLink;
 use sec_base::{Link, LinkFault};
@@ -13,7 +14,7 @@ use std::time::Duration;
 const PATIENCE: usize = 10_000;
 
 /// A TCP connection to an address, a host and a port with a colon between them, which is made at the first read or write. Where it can't
-/// be made within 10 seconds, each call answers a fault. It tells nothing of its octets.
+/// be made within 10 seconds, each call answers a fault. What it took and wrote is what its calls answered; it tells nothing of octets to come.
 #[derive(Drop)]
 pub struct DialedLink<'a, R: SystemTimeSource + Drop> {
     rt: R,
@@ -51,6 +52,7 @@ impl<'a, R: Net<Stream = TcpStream> + SystemTimeSource + Copy + Drop> DialedLink
 
     /// Connects, unless that was tried before.
     fn dial(&mut self)
+        ensures wire { wire_of self.new.link ≡ wire_of self.old.link }
         ensures faults { self.new.link.faults ≡ self.old.link.faults }
         ensures closed { self.new.link.closed ≡ self.old.link.closed }
     {
@@ -62,13 +64,13 @@ impl<'a, R: Net<Stream = TcpStream> + SystemTimeSource + Copy + Drop> DialedLink
 }
 
 impl<'a, R: Net<Stream = TcpStream> + SystemTimeSource + Copy + Drop> Link for DialedLink<'a, R> {
-    ghost use Rattle.std.specs.Prelude.{false, []};
+    ghost use Rattle.std.specs.Prelude.{false};
 
     ghost faults = { λ l. l.link.faults };
 
     ghost tells = { λ _. false };
 
-    ghost wire = { λ _. record { taken = []; coming = []; written = [] } };
+    ghost wire = { λ l. wire_of l.link };
 
     ghost closed = { λ l. l.link.closed };
 

@@ -1,5 +1,5 @@
 //! The devices of the real system: files, the clock, random octets, standard streams, TCP, and the words of the command line. Each is
-//! thin, and tells nothing.
+//! thin, and tells nothing of what is to come.
 #![tactic(auto)]
 
 mod again;

@@ -31,7 +31,7 @@ enum Turn {
 /// A TCP connection whose peer can't hold it by an octet now and then. It may be silent for so many seconds. So many seconds, and a
 /// second more for each 1,024 octets, may go by from a record's first octets to its reply's, and from those to the reply's last. After
 /// that each call answers a fault. Once its listener was stopped, which a call that waits sees within half a second, it reads as ended,
-/// and what is written has half a second more. It tells nothing of its octets.
+/// and what is written has half a second more. What it took and wrote is what its calls answered; it tells nothing of octets to come.
 #[derive(Drop)]
 pub struct PatientLink<'a, R: Clock + Drop> {
     link: TcpLink<R>,
@@ -193,13 +193,14 @@ impl<'a, R: Clock + Copy + Drop> PatientLink<'a, R> {
 }
 
 impl<R: Clock + Copy + Drop> Link for PatientLink<'_, R> {
-    ghost use Rattle.std.specs.Prelude.{false, []};
+    ghost use Rattle.std.specs.Prelude.{false};
+    ghost use Rattle.system_devices.specs.Moves.{wire_of};
 
     ghost faults = { λ l. l.faults };
 
     ghost tells = { λ _. false };
 
-    ghost wire = { λ _. record { taken = []; coming = []; written = [] } };
+    ghost wire = { λ l. wire_of l.link };
 
     ghost closed = { λ l. ⟦<TcpLink<R> as Link>⟧.closed l.link };
 

@@ -7,17 +7,19 @@ ghost use Rattle.sec_base.specs.Port.{Accepts};
 ghost use Rattle.system_devices.specs.Devices.{is_given};
 
 use crate::again::{read_on, write_on};
-use sec_base::{Link, LinkFault, Port, PortFault};
+use sec_base::{Link, LinkFault, Port, PortFault, Trail};
 use std::io::{Stdin, Stdout};
 
-/// The link over standard input and output. A call that a signal, a stop or a tracer broke off is made again. It tells nothing of its
-/// octets.
+/// The link over standard input and output. A call that a signal, a stop or a tracer broke off is made again. What it took and wrote is
+/// what its calls answered; it tells nothing of octets to come.
 #[derive(Drop)]
 pub struct StdioLink {
     input: Stdin,
     output: Stdout,
     faults: u64,
     closed: bool,
+    taken: Trail,
+    written: Trail,
 }
 
 impl Link for StdioLink {
@@ -27,7 +29,11 @@ impl Link for StdioLink {
 
     ghost tells = { λ _. false };
 
-    ghost wire = { λ _. record { taken = []; coming = []; written = [] } };
+    ghost wire = { λ l. record {
+      taken = l.taken.octets;
+      coming = [];
+      written = l.written.octets;
+    } };
 
     ghost closed = { λ l. l.closed };
 
@@ -35,7 +41,10 @@ impl Link for StdioLink {
 
     fn read(&mut self, buf: &mut [u8]) -> Result<usize, LinkFault> {
         match read_on(&mut self.input, buf) {
-            Some(count) => Ok(count),
+            Some(count) => {
+                self.taken = self.taken.then(&buf[..count]);
+                Ok(count)
+            }
             None => {
                 self.faults = self.faults.saturating_add(1);
                 Err(LinkFault)
@@ -45,7 +54,10 @@ impl Link for StdioLink {
 
     fn write(&mut self, buf: &[u8]) -> Result<usize, LinkFault> {
         match write_on(&mut self.output, buf) {
-            Some(count) => Ok(count),
+            Some(count) => {
+                self.written = self.written.then(&buf[..count]);
+                Ok(count)
+            }
             None => {
                 self.faults = self.faults.saturating_add(1);
                 Err(LinkFault)
@@ -118,6 +130,8 @@ impl Port for StdioPort {
             output: self.output,
             faults: 0,
             closed: false,
+            taken: Trail::new(),
+            written: Trail::new(),
         }))
     }
 }

@@ -1,9 +1,9 @@
 //! A TCP connection.
 
-ghost use Rattle.std.specs.Prelude.{◌≡◌, ◌<◌, ◌≤◌, ℕ, true, false, length};
+ghost use Rattle.std.specs.Prelude.{◌≡◌, ◌<◌, ◌≤◌, ℕ, true, false, length, IfSome};
 
 use crate::again::{Moved, read_in_time, read_on, write_in_time, write_on};
-use sec_base::{Link, LinkFault};
+use sec_base::{Link, LinkFault, Trail};
 use std::net::{Shutdown, TcpStream};
 use std::rt::Clock as SystemTimeSource;
 use std::sync::atomic::{AtomicBool, Ordering};
@@ -30,13 +30,15 @@ const PIECE: usize = 16_384;
 /// nothing comes or nothing can be written. A call that a signal, a stop or a tracer broke off is made again. A close ends the writing
 /// side first, and then reads and drops what still comes, until the peer's end, for at most 2 seconds and 4,194,304 octets: a connection
 /// that is closed before its octets were read is reset, and takes with it what was written and didn't arrive yet. One that was closed
-/// holds no descriptor. It tells nothing of its octets.
+/// holds no descriptor. What it took and wrote is what its calls answered; it tells nothing of octets to come.
 #[derive(Drop)]
 pub struct TcpLink<R: SystemTimeSource + Drop> {
     rt: R,
     stream: Option<TcpStream>,
     faults: u64,
     closed: bool,
+    taken: Trail,
+    written: Trail,
 }
 
 /// The stream with its options: what is written goes out at once, no octets wait for more behind them, and no read or write waits
@@ -101,7 +103,51 @@ fn drop_rest<R: SystemTimeSource>(rt: &R, stream: &mut TcpStream, stopped: Optio
     }
 }
 
+/// Reads octets of a connection, where there is one.
+fn read_of(stream: &mut Option<TcpStream>, buf: &mut [u8]) -> Option<usize>
+    ensures { IfSome result (λ count. count ≤ length buf.old) }
+{
+    match stream {
+        Some(stream) => read_on(stream, buf),
+        None => None,
+    }
+}
+
+/// Writes the first octets of `buf` to a connection, where there is one.
+fn write_of(stream: &mut Option<TcpStream>, buf: &[u8]) -> Option<usize>
+    ensures count { IfSome result (λ count. count ≤ length buf.now) }
+    ensures some { IfSome result (λ count. 0 < length buf.now → 0 < count) }
+{
+    match stream {
+        Some(stream) => write_on(stream, buf),
+        None => None,
+    }
+}
+
+/// The same as `read_of`, and says where none came while it waited.
+fn read_where(stream: &mut Option<TcpStream>, buf: &mut [u8]) -> Moved
+    ensures { (count : ℕ) → result ≡ Moved.Octets count → count ≤ length buf.old }
+{
+    match stream {
+        Some(stream) => read_in_time(stream, buf),
+        None => Moved::Fault,
+    }
+}
+
+/// The same as `write_of`, and says where none were taken while it waited.
+fn write_where(stream: &mut Option<TcpStream>, buf: &[u8]) -> Moved
+    ensures count { (count : ℕ) → result ≡ Moved.Octets count → count ≤ length buf.now }
+    ensures some { (count : ℕ) → result ≡ Moved.Octets count → 0 < length buf.now → 0 < count }
+{
+    match stream {
+        Some(stream) => write_in_time(stream, buf),
+        None => Moved::Fault,
+    }
+}
+
 impl<R: SystemTimeSource + Drop> TcpLink<R> {
+    ghost use Rattle.system_devices.specs.Moves.{wire_of, TakesMoved, WritesMoved};
+
     /// A link without a connection.
     pub(crate) fn none(rt: R) -> TcpLink<R>
         ensures closed { result.closed ≡ false }
@@ -112,11 +158,14 @@ impl<R: SystemTimeSource + Drop> TcpLink<R> {
             stream: None,
             faults: 0,
             closed: false,
+            taken: Trail::new(),
+            written: Trail::new(),
         }
     }
 
     /// From now on the link is over this connection, where there is one.
     pub(crate) fn take(&mut self, stream: Option<TcpStream>)
+        ensures wire { wire_of self.new ≡ wire_of self.old }
         ensures faults { self.new.faults ≡ self.old.faults }
         ensures closed { self.new.closed ≡ self.old.closed }
     {
@@ -140,11 +189,16 @@ impl<R: SystemTimeSource + Drop> TcpLink<R> {
     /// Reads octets, and says where none came while it waited.
     pub(crate) fn read_waiting(&mut self, buf: &mut [u8]) -> Moved
         ensures count { (count : ℕ) → result ≡ Moved.Octets count → count ≤ length buf.old }
+        ensures taken { TakesMoved (wire_of self.old) (wire_of self.new) result buf.new }
         ensures closed { self.new.closed ≡ self.old.closed }
     {
-        match &mut self.stream {
-            Some(stream) => read_in_time(stream, buf),
-            None => Moved::Fault,
+        match read_where(&mut self.stream, buf) {
+            Moved::Octets(count) => {
+                self.taken = self.taken.then(&buf[..count]);
+                Moved::Octets(count)
+            }
+            Moved::None => Moved::None,
+            Moved::Fault => Moved::Fault,
         }
     }
 
@@ -152,16 +206,22 @@ impl<R: SystemTimeSource + Drop> TcpLink<R> {
     pub(crate) fn write_waiting(&mut self, buf: &[u8]) -> Moved
         ensures count { (count : ℕ) → result ≡ Moved.Octets count → count ≤ length buf.now }
         ensures some { (count : ℕ) → result ≡ Moved.Octets count → 0 < length buf.now → 0 < count }
+        ensures written { WritesMoved (wire_of self.old) (wire_of self.new) result buf.now }
         ensures closed { self.new.closed ≡ self.old.closed }
     {
-        match &mut self.stream {
-            Some(stream) => write_in_time(stream, buf),
-            None => Moved::Fault,
+        match write_where(&mut self.stream, buf) {
+            Moved::Octets(count) => {
+                self.written = self.written.then(&buf[..count]);
+                Moved::Octets(count)
+            }
+            Moved::None => Moved::None,
+            Moved::Fault => Moved::Fault,
         }
     }
 
     /// Ends the connection. The wait for the peer's end is short where the listener was or is stopped, of which the flag tells.
     pub(crate) fn part(&mut self, stopped: Option<&AtomicBool>)
+        ensures wire { wire_of self.new ≡ wire_of self.old }
         ensures closed { self.new.closed ≡ true }
         ensures faults { self.new.faults ≡ self.old.faults }
     {
@@ -176,25 +236,25 @@ impl<R: SystemTimeSource + Drop> TcpLink<R> {
 }
 
 impl<R: SystemTimeSource + Drop> Link for TcpLink<R> {
-    ghost use Rattle.std.specs.Prelude.{false, []};
+    ghost use Rattle.system_devices.specs.Moves.{wire_of};
+    ghost use Rattle.std.specs.Prelude.{false};
 
     ghost faults = { λ l. l.faults };
 
     ghost tells = { λ _. false };
 
-    ghost wire = { λ _. record { taken = []; coming = []; written = [] } };
+    ghost wire = { λ l. wire_of l };
 
     ghost closed = { λ l. l.closed };
 
     ghost closes = { λ old new. new.faults ≡ old.faults };
 
     fn read(&mut self, buf: &mut [u8]) -> Result<usize, LinkFault> {
-        let read = match &mut self.stream {
-            Some(stream) => read_on(stream, buf),
-            None => None,
-        };
-        match read {
-            Some(count) => Ok(count),
+        match read_of(&mut self.stream, buf) {
+            Some(count) => {
+                self.taken = self.taken.then(&buf[..count]);
+                Ok(count)
+            }
             None => {
                 self.faults = self.faults.saturating_add(1);
                 Err(LinkFault)
@@ -203,12 +263,11 @@ impl<R: SystemTimeSource + Drop> Link for TcpLink<R> {
     }
 
     fn write(&mut self, buf: &[u8]) -> Result<usize, LinkFault> {
-        let written = match &mut self.stream {
-            Some(stream) => write_on(stream, buf),
-            None => None,
-        };
-        match written {
-            Some(count) => Ok(count),
+        match write_of(&mut self.stream, buf) {
+            Some(count) => {
+                self.written = self.written.then(&buf[..count]);
+                Ok(count)
+            }
             None => {
                 self.faults = self.faults.saturating_add(1);
                 Err(LinkFault)

@@ -14,7 +14,7 @@ pub returns-clause-replied : goal.returns-clause-replied
 returns-clause-replied g c =
     makes-after c.make_room.ensures.same
     (makes-so c.answer_and_keep-reply.ensures.answered
-    (λ xs p. (omega (arith, ap length p.only), replied-so _ _ c.answer_and_keep-reply.result c.in-Err.end p c.in-Err.ensures.told c.in-Err.ensures.ruled)))
+    (λ xs p. (omega (arith, ap length p.only), replied-so _ _ _ c.answer_and_keep-reply.result c.in-Err.end p c.in-Err.ensures.told c.in-Err.ensures.ruled)))
 
 pub returns-then-is_err-clause-replied : goal.returns-then-is_err-clause-replied
 returns-then-is_err-clause-replied g c =

@@ -1,6 +1,6 @@
-use Rattle.std.proofs.Common.{arith, sym, ◌≤◌, length, IsTrue, ◌∙◌}
+use Rattle.std.proofs.Common.{arith, sym, ◌≤◌, length, ◌∙◌}
 use Rattle.std.proofs.lemmas.Grind.{common_steps}
-use Rattle.sec_base.proofs.InARow.{took-again, took-same, gave-took, take-put_mid-add}
+use Rattle.sec_base.proofs.InARow.{taken-again, taken-same, take-put_mid-add}
 use Rattle.sec_base.proofs.transfer.fill.Goals as goal
 
 pub loop-at-preserved : goal.loop-at-preserved
@@ -8,9 +8,7 @@ loop-at-preserved g c =
     let fits : c.in-Ok.count ≤ length c.read.new.buf = grind (arith, common_steps, c.in-Ok.ensures.count, c.read.auto.buf) in
     record {
       range = grind (arith, common_steps, c.in-Ok.ensures.count, c.read.auto.buf);
-      told = λ t.
-          let tells : IsTrue (g.L.Link.tells c.loop-at.link) = rw c.loop-at.invariant.tells t in
-          took-same (took-again (c.loop-at.invariant.told t) (gave-took (c.in-Ok.ensures.told tells)))
+      told = taken-same (taken-again c.loop-at.invariant.tells c.loop-at.invariant.told c.in-Ok.ensures.told.0)
           (sym (take-put_mid-add c.loop-at.at _ c.in-Ok.count c.loop-at.buf c.read.new.buf c.loop-at.invariant.range fits));
       tells = c.in-Ok.ensures.tells ∙ c.loop-at.invariant.tells;
       unclosed = c.in-Ok.ensures.unclosed;

@@ -1,11 +1,11 @@
-use Rattle.std.proofs.Common.{◌≡◌, ◌≤◌, ◌-◌, false, IsTrue, length, take}
-use Rattle.sec_base.specs.Streams.{Put}
+use Rattle.std.proofs.Common.{◌≡◌, ◌≤◌, ◌-◌, false, length, take}
+use Rattle.sec_base.specs.Link.{HasWritten}
 use Rattle.sec_base.proofs.transfer.send.Given as goal
 
 abbrev pub invariant-loop-at : goal.invariant-loop-at
 invariant-loop-at g l = record {
   range : l.at ≤ length l.octets;
-  told : IsTrue (g.L.Link.tells l.fn.link) → Put (g.L.Link.wire l.fn.link) (g.L.Link.wire l.link) (take l.at l.octets);
+  told : HasWritten (g.L.Link.tells l.fn.link) (g.L.Link.wire l.fn.link) (g.L.Link.wire l.link) (take l.at l.octets);
   tells : g.L.Link.tells l.link ≡ g.L.Link.tells l.fn.link;
   unclosed : g.L.Link.closed l.link ≡ false;
   faults : g.L.Link.faults l.fn.link ≤ g.L.Link.faults l.link;

@@ -3,7 +3,7 @@ use Rattle.sec_base.specs.Link.{Wire}
 use Rattle.stream_buffers.proofs.ahead.read_from.Goals as goal
 
 pub returns-in-Ok-clause-written : goal.returns-in-Ok-clause-written
-returns-in-Ok-clause-written g c = λ t. (c.in-Ok.ensures.told t).written
+returns-in-Ok-clause-written g c = c.in-Ok.ensures.told.0.written
 
 pub returns-in-Err-clause-written : goal.returns-in-Err-clause-written
-returns-in-Err-clause-written g c = λ t. ap (λ (w : Wire). w.written) (c.in-Err.ensures.told t)
+returns-in-Err-clause-written g c = ap (λ (w : Wire). w.written) c.in-Err.ensures.told
