@@ -13,7 +13,7 @@ ghost use Rattle.gss_server.specs.Hearing.{serving, shown};
 ghost use Rattle.gss_server.specs.Ruled.{IsRuled, AnswersRecord, kept_with, unasked};
 
 use crate::answer::{Answered, Kept};
-use crate::asks::Asks;
+use crate::asks::{Asks, unasked};
 use crate::creating::say_creating;
 use crate::gate::Gate;
 use crate::heard::Heard;
@@ -223,13 +223,7 @@ pub fn answer_record_by<G: Gate>(
     ensures { AnswersRecord G.Gate gate.old gate.new bytes.now now draws.now
         (serving G.program width) result }
 {
-    // (made here: a call would hand it over by a copy, and it is large)
-    let mut asks = Asks {
-        negotiated: None,
-        looked: None,
-        admitted: None,
-        ended: None,
-    };
+    let mut asks = unasked();
     let said = say_record(alloc, gate, bytes, now, draws, width, keys, &mut asks);
     let Said { rule, reply } = said;
     let Asks {
