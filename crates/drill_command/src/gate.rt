@@ -29,11 +29,15 @@ impl DrillGate {
 }
 
 impl Beginning<DrillGate> for Brand {
+    ghost use Rattle.std.specs.Prelude.{[]};
+
     ghost begins = { λ _. Unit {0} };
 
     ghost width = { 0 };
 
     ghost moment = { 0 };
+
+    ghost given = { [] };
 }
 
 /// It is asked as the gate in it, and answers as that does (`OwnAnswers`).

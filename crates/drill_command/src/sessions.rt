@@ -81,6 +81,7 @@ fn hold_from<J: Beginning<DrillGate>>(
     requires begins { J.begins book }
     requires width { J.width ≡ 128 }
     requires moment { now ≡ J.moment }
+    requires given { J.given ≡ [] }
     requires list { is_own_list (start_means start meaning).setup.list ≡ true }
     requires first { start.first ≡ 1 }
     ensures held { IfOk result (λ h. ∥ HoldsBehind

@@ -1,6 +1,6 @@
 -- What a link that answers in one thread heard and said, after each part of a write.
 use Rattle.std.proofs.Common.{◌≡◌, ◌⊎◌, inl, inr, ℕ, ◌+◌, ◌-◌, ◌^◌, ◌<◌, ◌≤◌, Bool, true, false, List, [], ◌∷◌, ◌++◌, length, take, drop, refl, ap, sym, subst, ◌∙◌, arith, append_assoc}
-use Rattle.std.specs.Prelude.{nat_lt}
+use Rattle.std.specs.Prelude.{nat_lt, IsTrue}
 use Rattle.std.proofs.lemmas.Bool.Decides.{nat_tests}
 use Rattle.std.proofs.Math.Seq.{drop-append_seam}
 use Rattle.std.proofs.lemmas.List.{length-append, length-drop, append-nil, drop_all, take_all, take-append-drop}
@@ -16,7 +16,7 @@ use Rattle.gate_models.specs.declared.looping.Turned.TheVariants.{Answered, Rest
 use Rattle.gss_server.specs.Answers.{GoesOn}
 use Rattle.gss_server.specs.Asking.{Asking}
 use Rattle.gss_server.specs.Connections.{octets_of, ruling_for, written_for, written_in, asked_for, asked_in, IsExact}
-use Rattle.gate_models.specs.Looping.{IsUnfit, IsLast, Rest, LoopedTo, Looped, IsWholeAt, Answering, KeptOnly, IsAnsweredBy, Unjudged, IsTurned, HeardMore, Loops, Since, AllAt}
+use Rattle.gate_models.specs.Looping.{IsUnfit, IsLast, Rest, LoopedTo, Looped, IsWholeAt, Answering, KeptOnly, IsAnsweredBy, Unjudged, IsTurned, HeardMore, Loops, Since, AllAt, GaveTo}
 use Rattle.gss_server.proofs.Turning.{each-push, octets_of-push, order-push, all-push}
 
 -- what stands behind the records is the rest
@@ -35,6 +35,10 @@ at-push moment (k ∷ kept) one all e = (all.0, at-push moment kept one all.1 e)
 
 at-more : (moment : ℕ) (kept kept' : List Kept) (one : Kept) → AllAt moment kept → one.now ≡ moment → kept' ≡ kept ++ one ∷ [] → AllAt moment kept'
 at-more moment kept kept' one all e keeps = subst (AllAt moment) (sym keeps) (at-push moment kept one all e)
+
+-- a draw that gave nothing to an answer gave what it did before
+pub gave-none : (tells : Bool) (given before : List ℕ) → given ≡ before → GaveTo tells given before []
+gave-none tells given before e = λ t. e ∙ sym (append-nil before)
 
 -- what was asked before, and then
 abbrev pub Goes : (List (Asked Admitted) → Type 0) → (List (Asked Admitted) → Type 0) → (List (Asked Admitted) → Type 0) → Type 0

@@ -1,7 +1,7 @@
 -- What a link that answers in one thread heard and said.
 use Rattle.std.specs.Prelude.{◌≡◌, ◌⊎◌, ℕ, ◌+◌, Bool, true, false, List, [], ◌∷◌, ◌++◌, length}
-use Rattle.std.specs.Prelude.{take}
-use Rattle.std.specs.List.{AllByRecursion}
+use Rattle.std.specs.Prelude.{take, IsTrue}
+use Rattle.std.specs.List.{AllByRecursion, flat_map}
 use Rattle.sec_base.specs.Link.{Wire}
 use Rattle.rpc_msgs.specs.Records.{Fragments, octets_in, frame, IsRecord, IsFront, IsTooLong}
 use Rattle.rpc_msgs.specs.Records.{IsTooMany}
@@ -97,6 +97,14 @@ Loops gained serves moment wire kept starved =
 abbrev pub Since : {S : Type 0} → (S → Type 0) → (S → Asked Admitted → S → Type 0) → S
     → List (Asked Admitted) → Type 0
 Since {S} begins Answers now asked = (first : S) × begins first × Asking Answers first asked now
+
+-- the octets that were drawn for these answers, in their order
+abbrev pub drawn_in : List Kept → List ℕ
+drawn_in kept = flat_map (λ one. one.draws) kept
+
+-- what a draw gave, where it tells that: these octets before, and then those of the answers
+abbrev pub GaveTo : Bool → List ℕ → List ℕ → List Kept → Type 0
+GaveTo tells given before kept = IsTrue tells → given ≡ before ++ drawn_in kept
 
 -- ---- parts of a write
 

@@ -3,7 +3,7 @@
 ghost use Rattle.std.specs.Prelude.{◌≡◌, ◌≤◌, ◌+◌, nat_lt, [], false, IfOk, length, take, drop};
 ghost use Rattle.std.specs.Prelude.{vec_len};
 ghost use Rattle.gss_server.specs.Hearing.{serving};
-ghost use Rattle.gate_models.specs.Looping.{Looped, Loops, Since};
+ghost use Rattle.gate_models.specs.Looping.{Looped, Loops, Since, GaveTo};
 
 use crate::beginning::Beginning;
 use crate::looping::Looping;
@@ -19,10 +19,10 @@ use std::marker::PhantomData;
 /// It tells its octets. A write that finds no memory, or has a call of which it isn't known what became, is its only fault; from then on each
 /// write is one, and reads give what was replied.
 ///
-/// `J` names the gate's state at the beginning, the width of the windows and the moment of all answers. So what the gate was asked is known
-/// of the link's type, whatever was done with the link.
+/// `J` names the gate's state at the beginning, the width of the windows, the moment of all answers, and what the draw gave before. So what the
+/// gate was asked, and which octets were drawn for each answer, is known of the link's type, whatever was done with the link.
 #[derive(Drop)]
-pub struct LoopLink<G: Gate, Q, J: Beginning<G>> {
+pub struct LoopLink<G: Gate, Q: Draw, J: Beginning<G>> {
     alloc: Global,
     inner: Looping<G, Q>,
     at: usize,
@@ -36,6 +36,7 @@ pub struct LoopLink<G: Gate, Q, J: Beginning<G>> {
         (serving G.program inner.width) inner.now inner.heard.items inner.said.items
         inner.kept.items inner.cut
         (nat_lt 0 faults) ∥₁ },
+    ghost drawn: { GaveTo (Q.tells inner.draws) (Q.given inner.draws) J.given inner.kept.items },
 }
 
 impl<G: Gate, Q: Draw, J: Beginning<G>> LoopLink<G, Q, J> {
@@ -52,6 +53,7 @@ impl<G: Gate, Q: Draw, J: Beginning<G>> LoopLink<G, Q, J> {
         requires begins { J.begins gate }
         requires width { width ≡ J.width }
         requires moment { now ≡ J.moment }
+        requires given { Q.given draws ≡ J.given }
         ensures wire { IfOk result (λ link. ⟦<LoopLink<G, Q, J> as Link>⟧.wire link
             ≡ record { taken = []; coming = []; written = [] }) }
         ensures closed { IfOk result (λ link. ⟦<LoopLink<G, Q, J> as Link>⟧.closed link ≡ false) }
@@ -102,6 +104,8 @@ impl<G: Gate, Q: Draw, J: Beginning<G>> LoopLink<G, Q, J> {
             (serving G.program J.width) J.moment (⟦<LoopLink<G, Q, J> as Link>⟧.wire self.now)
             result.now
             (nat_lt 0 (⟦<LoopLink<G, Q, J> as Link>⟧.faults self.now)) ∥₁ }
+        ensures drawn { GaveTo (Q.tells (loop_draws self.now)) (Q.given (loop_draws self.now))
+            J.given result.now }
     {
         self.inner.kept.as_slice()
     }
@@ -116,6 +120,8 @@ impl<G: Gate, Q: Draw, J: Beginning<G>> LoopLink<G, Q, J> {
             (serving G.program J.width) J.moment
             (⟦<LoopLink<G, Q, J> as Link>⟧.wire self) result.2.items
             (nat_lt 0 (⟦<LoopLink<G, Q, J> as Link>⟧.faults self)) ∥₁ }
+        // Behind what it gave before, the draw gave the octets of these answers, in their order, and no other.
+        ensures drawn { GaveTo (Q.tells result.1) (Q.given result.1) J.given result.2.items }
     {
         let LoopLink { inner, .. } = self;
         let Looping {

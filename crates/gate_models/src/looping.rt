@@ -8,7 +8,7 @@ ghost use Rattle.gss_server.specs.Answers.{IsReply, Fits};
 ghost use Rattle.gss_server.specs.Asking.{Asking};
 ghost use Rattle.gss_server.specs.Hearing.{serving};
 ghost use Rattle.gate_models.specs.Looping.{size_of, IsNext, IsSaid, IsAnsweredBy, Unjudged};
-ghost use Rattle.gate_models.specs.Looping.{LoopedTo, IsTurned, Looped, HeardMore};
+ghost use Rattle.gate_models.specs.Looping.{LoopedTo, IsTurned, Looped, HeardMore, GaveTo};
 
 use gss_server::{Answered, Gate, Kept, Reply, answer_record_by};
 use krb_tokens::KeyCache;
@@ -120,6 +120,9 @@ impl<G: Gate, Q: Draw> Looping<G, Q> {
             self.old.now octets.now size self.old.kept.items self.new.kept.items
             self.old.said.items self.new.said.items self.old.cut self.new.cut result }
         ensures heard { self.new.heard ≡ self.old.heard }
+        ensures drawn { (before : List ℕ) → GaveTo (Q.tells self.old.draws) (Q.given self.old.draws)
+            before self.old.kept.items
+            → GaveTo (Q.tells self.new.draws) (Q.given self.new.draws) before self.new.kept.items }
         ensures width { self.new.width ≡ self.old.width }
         ensures moment { self.new.now ≡ self.old.now }
     {
@@ -162,6 +165,9 @@ impl<G: Gate, Q: Draw> Looping<G, Q> {
         ensures further { result ≡ Turned.Answered → self.old.cut < self.new.cut }
         ensures said { (more : List ℕ) × (self.new.said.items ≡ self.old.said.items ++ more) }
         ensures heard { self.new.heard ≡ self.old.heard }
+        ensures drawn { (before : List ℕ) → GaveTo (Q.tells self.old.draws) (Q.given self.old.draws)
+            before self.old.kept.items
+            → GaveTo (Q.tells self.new.draws) (Q.given self.new.draws) before self.new.kept.items }
         ensures width { self.new.width ≡ self.old.width }
         ensures moment { self.new.now ≡ self.old.now }
     {
@@ -185,6 +191,9 @@ impl<G: Gate, Q: Draw> Looping<G, Q> {
             (not result) }
         ensures said { (more : List ℕ) × (self.new.said.items ≡ self.old.said.items ++ more) }
         ensures heard { self.new.heard ≡ self.old.heard }
+        ensures drawn { (before : List ℕ) → GaveTo (Q.tells self.old.draws) (Q.given self.old.draws)
+            before self.old.kept.items
+            → GaveTo (Q.tells self.new.draws) (Q.given self.new.draws) before self.new.kept.items }
         ensures width { self.new.width ≡ self.old.width }
         ensures moment { self.new.now ≡ self.old.now }
     {
@@ -209,6 +218,9 @@ impl<G: Gate, Q: Draw> Looping<G, Q> {
             (not result) }
         ensures said { (more : List ℕ) × (self.new.said.items ≡ self.old.said.items ++ more) }
         ensures heard { HeardMore buf.now self.old.heard.items self.new.heard.items result }
+        ensures drawn { (before : List ℕ) → GaveTo (Q.tells self.old.draws) (Q.given self.old.draws)
+            before self.old.kept.items
+            → GaveTo (Q.tells self.new.draws) (Q.given self.new.draws) before self.new.kept.items }
         ensures width { self.new.width ≡ self.old.width }
         ensures moment { self.new.now ≡ self.old.now }
     {

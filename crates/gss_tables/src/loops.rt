@@ -1,6 +1,6 @@
 //! A client and the rules of a record over one book, in one thread.
 
-ghost use Rattle.std.specs.Prelude.{◌≡◌, true, false, IfSome, map};
+ghost use Rattle.std.specs.Prelude.{◌≡◌, true, false, IfSome, map, []};
 ghost use Rattle.spnego_core.specs.InitMech as plain_lists;
 ghost use Rattle.init_ends.specs.Arming.{AreStandard};
 ghost use Rattle.init_ends.specs.Ends.{setup_by};
@@ -30,7 +30,8 @@ const LIMITS: &str = "4:4:16:4";
 /// The width of their windows.
 const WIDTH: u32 = 4;
 
-/// What the type of a link says: nothing of its book, the width, and that the clock stands at 1,000,000 seconds.
+/// What the type of a link says: nothing of its book, the width, that the clock stands at 1,000,000 seconds, and that its draw gave nothing
+/// before.
 #[derive(Drop)]
 struct AtPresent;
 
@@ -40,6 +41,8 @@ impl Beginning<BookGate> for AtPresent {
     ghost width = { 4 };
 
     ghost moment = { 1000000000000 };
+
+    ghost given = { [] };
 }
 
 /// A link over a book, whose acceptor's random octets come from memory.

@@ -19,7 +19,8 @@ use sec_base::{Draw, Items, Link, MemDraw, Moment};
 use spnego_core::AcceptSetup;
 use std::alloc::Global;
 
-/// What the type of the link says of the server: nothing of its book, the width of its windows, and that its clock stands at the start of 1970.
+/// What the type of the link says of the server: nothing of its book, the width of its windows, that its clock stands at the start of 1970,
+/// and that its draw gave nothing before.
 #[derive(Drop)]
 pub struct AtStart;
 
@@ -29,6 +30,8 @@ impl<V: Program, W: Speller<V::Ticket>> Beginning<OwnGate<V, W>> for AtStart {
     ghost width = { 8 };
 
     ghost moment = { 0 };
+
+    ghost given = { [] };
 }
 
 /// A link to a server in the same thread, whose random octets come from memory.

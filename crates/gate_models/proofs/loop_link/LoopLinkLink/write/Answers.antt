@@ -16,6 +16,7 @@ invariant_of-self g c =
       stopped = s.stopped;
       within = s.within;
       looped = ∥∥₁_map s.looped (λ p. subst (λ (b : Bool). Looped B (serving g.G.Gate.program s.inner.width) s.inner.now s.inner.heard.items s.inner.said.items s.inner.kept.items s.inner.cut b) (still-starved s.faults c.saturating_add-self.result c.if-self-gt0.true (omega (arith, c.if-self-gt0.true, c.saturating_add-self.ensures))) p);
+      drawn = s.drawn;
     }
 
 pub invariant_of-self-then-take : goal.invariant_of-self-then-take
@@ -32,6 +33,7 @@ invariant_of-self-then-take g c =
       looped = ∥∥₁_map s.looped (λ p. subst (λ (b : Bool). Looped (Since B A t.gate) (serving g.G.Gate.program t.width) t.now t.heard.items t.said.items t.kept.items t.cut b) (sym fed)
           (looped-since B A s.inner.gate t.gate (serving g.G.Gate.program s.inner.width) (serving g.G.Gate.program t.width) s.inner.now t.now s.inner.heard.items t.heard.items s.inner.said.items t.said.items s.inner.kept.items t.kept.items s.inner.cut t.cut false c.if-take.ensures.looped
           (subst (λ (b : Bool). Looped (Since B A s.inner.gate) (serving g.G.Gate.program s.inner.width) s.inner.now s.inner.heard.items s.inner.said.items s.inner.kept.items s.inner.cut b) fed p)));
+      drawn = c.take.ensures.drawn g.J.Beginning.given s.drawn;
     }
 
 pub invariant_of-self-2 : goal.invariant_of-self-2
@@ -47,4 +49,5 @@ invariant_of-self-2 g c =
       within = omega (arith, s.within, ap (length {A = ℕ}) more.1, length-append s.inner.said.items more.0);
       looped = ∥∥₁_map s.looped (λ p. looped-since B A s.inner.gate t.gate (serving g.G.Gate.program s.inner.width) (serving g.G.Gate.program t.width) s.inner.now t.now s.inner.heard.items t.heard.items s.inner.said.items t.said.items s.inner.kept.items t.kept.items s.inner.cut t.cut (not false) c.if-take.ensures.looped
           (subst (λ (b : Bool). Looped (Since B A s.inner.gate) (serving g.G.Gate.program s.inner.width) s.inner.now s.inner.heard.items s.inner.said.items s.inner.kept.items s.inner.cut b) fed p));
+      drawn = c.take.ensures.drawn g.J.Beginning.given s.drawn;
     }

@@ -13,6 +13,7 @@ loop-self-preserved g c =
       looped = λ first p. c.in-Answered.ensures.looped first (c.loop-self.invariant.looped first p);
       said = (before.0 ++ then.0, then.1 ∙ (ap (λ (zs : List ℕ). zs ++ then.0) before.1 ∙ append_assoc c.args.self.now.said.items before.0 then.0));
       heard = search rules;
+      drawn = λ b gave. c.in-Answered.ensures.drawn b (c.loop-self.invariant.drawn b gave);
       width = search rules;
       moment = search rules;
     }
