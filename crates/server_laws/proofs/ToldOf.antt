@@ -19,7 +19,8 @@ use Rattle.gss_server.specs.Programs.{Taken, Enters, EntersTaken, Spelt, SpeltTa
 use Rattle.book_seats.specs.Both.{BothOf, BothAnswer, ProgramAnswers}
 use Rattle.book_seats.specs.Notes.{Note, Noted, receipted, noted_by, noted_in}
 use Rattle.book_seats.specs.Telling.{ToldFrom, AllTold}
-use Rattle.world_laws.specs.Apart.{NoList, ToldApart}
+use Rattle.world_laws.specs.Apart.{ToldApart}
+use Rattle.told_apart.specs.Apart.{NoList}
 use Rattle.server_laws.specs.Apart.{SpellsApart}
 use Rattle.server_laws.specs.ServerRun.{book_notes}
 use Rattle.server_laws.proofs.Beside.{booked_by, questions_in}

@@ -3,7 +3,7 @@ use Rattle.std.specs.Prelude.{◌≡◌, ℕ, List, true, Some}
 use Rattle.rpc_program.specs.Programs.{ProgramSays, CallerOf, result_in}
 use Rattle.rpc_program.specs.declared.outcome.Outcome.{Outcome}
 use Rattle.rpc_program.specs.declared.program.Speller as spellers
-use Rattle.world_laws.specs.Apart.{NoList}
+use Rattle.told_apart.specs.Apart.{NoList}
 
 -- what is spelled for arguments that the program takes is told apart from a list of mechanisms,
 -- which an acceptor signs by the same key

@@ -35,7 +35,7 @@ use Rattle.world_laws.specs.Premises.{Marking, NoForgery, Fresh}
 use Rattle.world_laws.specs.Setups.{IsSetup}
 use Rattle.world_laws.specs.Stages.{Ready}
 use Rattle.world_laws.specs.State.{InHand, World}
-use Rattle.world_laws.specs.Apart.{IsApart}
+use Rattle.told_apart.specs.Apart.{IsApart}
 use Rattle.server_laws.specs.Apart.{SpellsApart}
 use Rattle.server_laws.specs.Beside.{BookNote}
 use Rattle.server_laws.specs.Served.{Meanwhile}

@@ -1,6 +1,6 @@
 //! The headline, of the server that serves the program of posts.
 
-ghost use Rattle.world_laws.specs.Apart.{IsApart};
+ghost use Rattle.told_apart.specs.Apart.{IsApart};
 ghost use Rattle.server_laws.specs.Apart.{SpellsApart};
 ghost use Rattle.server_laws.specs.ServerHeadline.{HeadlineOfRuns};
 

@@ -14,6 +14,7 @@ pub use devices::hold_memory;
 pub use gss_base::MechKind;
 pub use gss_client::{ClientRefusal, DueCall, Parting, Query, Talk, Terms};
 pub use listening::serve;
+pub use posts_program::opaque_alone;
 pub use rpc_msgs::{XdrReader, XdrWriter};
 pub use rpc_program::{
     Answerer, Caller, Fault, Outcome, Program, ProgramId, Spelled, Speller, Unserved,
@@ -24,3 +25,4 @@ pub use scram_mech::ScramRefusal;
 pub use sec_base::{Draw, Link, MemDraw, NoMemory, Octets, Text};
 pub use server_options::{KeyFile, RunEnd};
 pub use system_devices::{HeldStreams, RandDraw, StdSink, SystemClock, WordsRefusal, command_line};
+pub use told_apart::prove_told_apart;

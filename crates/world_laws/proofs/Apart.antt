@@ -7,7 +7,7 @@ use Rattle.spnego_msgs.specs.Lists.{list_octets}
 use Rattle.spnego_core.specs.Ends.{PlainSetup}
 use Rattle.spnego_core.specs.InitMech.{is_own_list}
 use Rattle.spnego_core.specs.Initiating.{own_list}
-use Rattle.world_laws.specs.Apart.{first_word, oid_word, NoList}
+use Rattle.told_apart.specs.Apart.{first_word, oid_word, NoList}
 use Rattle.world_laws.proofs.ListOctets.{IsHigh, high-list}
 
 -- ---- two fronts, and two backs, of one length

@@ -7,7 +7,7 @@ use Rattle.spnego_core.specs.declared.setup.AcceptSetup.{AcceptSetup}
 use Rattle.spnego_core.specs.Ends.{PlainSetup}
 use Rattle.spnego_core.specs.AcceptMech.{Basis, ByRequest, ByProof}
 use Rattle.rpc_program.specs.Programs.{Serving}
-use Rattle.world_laws.specs.Apart.{IsApart}
+use Rattle.told_apart.specs.Apart.{IsApart}
 use Rattle.world_laws.specs.State.{Context, World}
 use Rattle.world_laws.specs.Premises.{Marking, GuardedBasis, BuiltKey, OnTicket, Fresh, HasAuth, Completed, Proved, AtInitiator}
 use Rattle.world_laws.specs.Agreement.{Partner}

@@ -43,7 +43,7 @@ use Rattle.world_laws.specs.Stages as stages
 pub use Rattle.world_laws.specs.Agreement.{FixedAs, WasOpened, HasAuthEntry}
 pub use Rattle.world_laws.specs.Below.{Below}
 use Rattle.world_laws.specs.State.{InHand, Context, World}
-use Rattle.world_laws.specs.Apart.{NoList}
+use Rattle.told_apart.specs.Apart.{NoList}
 use Rattle.world_laws.specs.Initiators.{call_makings}
 use Rattle.world_laws.specs.Lanes.{result_makings}
 use Rattle.world_laws.specs.Events.{IsBook}

@@ -12,8 +12,8 @@ use Rattle.der_core.specs.Values.{object_identifier}
 use Rattle.spnego_msgs.specs.Lists.{list_octets}
 use Rattle.spnego_core.specs.declared.setup.MechCred.{MechCred}
 use Rattle.spnego_core.specs.InitMech.{name_of, oid_listed, is_own_list}
-use Rattle.world_laws.specs.Apart.{oid_word}
-use Rattle.world_laws.proofs.OriginReading.{word_of}
+use Rattle.told_apart.specs.Apart.{oid_word}
+use Rattle.told_apart.proofs.Places.{word_of}
 
 pub record IsHigh (octets : List ℕ) : Type 0 where
   pub long : 8 < length octets

@@ -20,7 +20,7 @@ use Rattle.spnego_core.specs.Outcome.{token_end}
 use Rattle.gss_client.specs.Calling.{own_end, header_of}
 use Rattle.gss_client.specs.Session.{SessionState}
 use Rattle.world_laws.specs.declared.event.WorldEvent.{WorldEvent}
-use Rattle.world_laws.specs.Apart.{IsApart}
+use Rattle.told_apart.specs.Apart.{IsApart}
 use Rattle.world_laws.specs.Stages.{StageSays}
 use Rattle.world_laws.specs.Stages as stages
 use Rattle.world_laws.specs.Deeds.{Deed}

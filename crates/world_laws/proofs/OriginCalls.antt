@@ -9,7 +9,7 @@ use Rattle.spnego_core.specs.InitMech.{is_own_list}
 use Rattle.gss_client.specs.Session.{SessionState, session_after}
 use Rattle.world_laws.specs.declared.event.WorldEvent.{WorldEvent}
 use Rattle.world_laws.specs.declared.event.WorldEvent.TheVariants.{CallBy}
-use Rattle.world_laws.specs.Apart.{NoHeader, IsApart}
+use Rattle.told_apart.specs.Apart.{NoHeader, IsApart}
 use Rattle.world_laws.specs.Stages.{StageSays}
 use Rattle.world_laws.specs.Stages as stages
 use Rattle.world_laws.specs.Deeds.{Deed}

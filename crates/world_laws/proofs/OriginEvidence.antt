@@ -32,7 +32,7 @@ use Rattle.world_laws.specs.declared.event.WorldEvent.{WorldEvent}
 use Rattle.world_laws.specs.Deeds.{Deed}
 use Rattle.world_laws.specs.State.{InHand, Context, World}
 use Rattle.gss_server.specs.Asking.{BookAnswers}
-use Rattle.world_laws.specs.Apart.{IsApart}
+use Rattle.told_apart.specs.Apart.{IsApart}
 use Rattle.world_laws.specs.Lanes.{in_hand, ruling_of, question_of, secure_call_in, found_by, found_in_checked, found_in_sealed, found_in_body, found_in_header, found_in_call, found_in_end, Asks}
 use Rattle.world_laws.specs.Events.{Happens, Begins}
 use Rattle.world_laws.specs.Premises.{Marking, GuardedBasis, Guarded, WasMade, Unforged}

@@ -19,11 +19,12 @@ use Rattle.spnego_core.specs.Initiating.{own_list}
 use Rattle.spnego_core.specs.Outcome.{token_end}
 use Rattle.gss_client.specs.Calling.{own_end, header_of}
 use Rattle.gss_client.specs.Session.{SessionState}
-use Rattle.world_laws.specs.Apart.{NoHeader, NoList}
+use Rattle.told_apart.specs.Apart.{NoHeader, NoList}
 use Rattle.world_laws.specs.State.{World}
 use Rattle.world_laws.specs.Premises.{WasMade, Completed}
 use Rattle.world_laws.proofs.Makers.{tag, tag-word}
-use Rattle.world_laws.proofs.OriginReading.{word_of, drop-drop, Told}
+use Rattle.told_apart.proofs.Places.{word_of, drop-drop}
+use Rattle.world_laws.proofs.OriginReading.{Told}
 use Rattle.world_laws.proofs.OriginWords.{header-kind, header-version, header-procedure, header-proc, header-seq, header-service, header-long, number-first, args-behind}
 use Rattle.world_laws.proofs.ListOctets.{IsHigh, high-list}
 use Rattle.world_laws.proofs.OriginShown.{same-heads, content-sealed, HeaderMaking, BodyMaking, SealedMaking, one-of, NumberedBy}

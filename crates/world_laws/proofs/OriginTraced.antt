@@ -20,7 +20,7 @@ use Rattle.spnego_core.specs.Ends.{PlainSetup}
 use Rattle.rpc_program.specs.Programs.{ProgramSays, Serving}
 use Rattle.accept_book.specs.declared.book_answer.Lease.{Lease}
 use Rattle.accept_book.specs.RecordShown.{KeptAnswers, end_of, is_verified}
-use Rattle.world_laws.specs.Apart.{NoHeader, NoList, IsApart}
+use Rattle.told_apart.specs.Apart.{NoHeader, NoList, IsApart}
 use Rattle.world_laws.specs.State.{Context, World}
 use Rattle.world_laws.specs.Lanes.{cred_with, secure_call_by, secure_call_in, found_in_checked, found_in_sealed, found_in_body, found_in_header, found_in_call, found_in_end}
 use Rattle.world_laws.specs.Premises.{Marking, GuardedBasis, WasMade, Completed}

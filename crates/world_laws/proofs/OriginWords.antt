@@ -5,7 +5,7 @@ use Rattle.std.proofs.lemmas.Nat.{from_be_bytes-to_be_bytes_4}
 use Rattle.rpc_msgs.specs.Words.{word, opaque}
 use Rattle.gss_client.specs.Calling.{header_of}
 use Rattle.gss_client.specs.Session.{SessionState}
-use Rattle.world_laws.proofs.OriginReading.{word_of}
+use Rattle.told_apart.proofs.Places.{word_of}
 
 -- ---- the words of a caller's header
 

@@ -24,7 +24,7 @@ use Rattle.world_laws.specs.declared.event.Happened.{Happened}
 use Rattle.world_laws.specs.declared.event.Happened.TheVariants.{Sent, Completed, Stepped, Refused, Nothing}
 use Rattle.world_laws.specs.Deeds.{Deed}
 use Rattle.world_laws.specs.State.{InHand, Context, World}
-use Rattle.world_laws.specs.Apart.{NoList}
+use Rattle.told_apart.specs.Apart.{NoList}
 use Rattle.world_laws.specs.Lanes.{in_hand, ruling_of, hand_after, cred_with, secure_call_by, secure_call_in, result_makings, told_with, result_with, made_for_call, unless_short, accepted_in, context_with, fixes_by, IsAnswer, if_answered, Follows}
 use Rattle.world_laws.proofs.Invariants.{Below, FixedAs, Held, ContextMade, ByContext}
 use Rattle.world_laws.proofs.Slices.{get-last}

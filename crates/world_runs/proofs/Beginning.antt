@@ -7,7 +7,7 @@ use Rattle.spnego_core.specs.Ends.{PlainSetup}
 use Rattle.spnego_core.specs.InitMech.{is_own_list}
 use Rattle.rpc_program.specs.Programs.{Serving}
 use Rattle.accept_book.specs.Booking.{BookOf}
-use Rattle.world_laws.specs.Apart.{IsApart}
+use Rattle.told_apart.specs.Apart.{IsApart}
 use Rattle.world_laws.specs.declared.event.WorldEvent.{WorldEvent}
 use Rattle.world_laws.specs.Stages.{StageSays, Ready}
 use Rattle.world_laws.specs.Events.{IsBook, Run, Begins}
@@ -15,7 +15,7 @@ use Rattle.world_laws.specs.Setups.{IsSetup}
 use Rattle.world_runs.specs.Served.{served}
 use Rattle.world_runs.specs.Showing.{Ran}
 use Rattle.world_laws.specs.State.{InHand, World}
-use Rattle.world_runs.proofs.PostsApart.{posts-apart}
+use Rattle.told_apart.proofs.Posts.{posts-apart}
 
 line-in : (lines : List Verifier) → AreLines lines → (place : ℕ) (line : Verifier) → slice_get lines place ≡ Some line → IsLine line
 line-in [] all place line there = nothing line there

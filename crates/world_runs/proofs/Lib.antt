@@ -1,7 +1,6 @@
 mod Promising
 pub mod Wanting
 pub mod LaneTurns
-pub mod PostsApart
 mod RulingTurns
 pub mod Turns
 mod MetTokens

@@ -4,7 +4,7 @@ ghost use Rattle.std.specs.Prelude.{◌≡◌, ◌≤◌, ℕ, true, length, Lis
 ghost use Rattle.rpc_program.specs.Programs.{IsShort, result_in};
 ghost use Rattle.rpc_program.specs.declared.limits.TheConstants.{MOST};
 ghost use Rattle.posts_program.specs.Posts.{posts_says};
-ghost use Rattle.world_laws.specs.Apart.{NoList};
+ghost use Rattle.told_apart.specs.Apart.{NoList};
 ghost use Rattle.accept_book.specs.RecordShown.{AskedLook};
 ghost use Rattle.gss_server.specs.Telling.{limits_of};
 ghost use Rattle.world_runs.specs.Turning.{AsksBy};
@@ -38,7 +38,7 @@ pub(crate) struct Turn {
 const NO_PROCEDURE: u32 = 0xffff_ffff;
 
 /// What becomes of an admitted call, whose entry stands at this place of the log.
-#[tactic(auto, using(crate::proofs::PostsApart::posts_told))]
+#[tactic(auto, using(told_apart::proofs::Posts::posts_told))]
 fn outcome_of(
     alloc: Global,
     posts: &mut Posts,
