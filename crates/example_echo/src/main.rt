@@ -28,9 +28,6 @@ const USER: &str = "alice";
 
 const PASSWORD: &str = "open sesame";
 
-/// Random octets of the client. A program draws them anew for each session; these stand here, so that each run is the same.
-const DRAWS: [u8; 66] = [1; 66];
-
 /// The argument of the call: how many octets the words have, the words, and zeros up to a multiple of four (RFC 4506 section 4.10).
 const ARGUMENT: [u8; 16] = *b"\0\0\0\x0bhello world\0";
 
@@ -55,7 +52,7 @@ fn hold(alloc: Global, link: &mut PostsLink) -> Option<Talk>
     let argument = Octets::of(alloc, &ARGUMENT).ok()?;
     let mut due = Vec::new(alloc);
     due.push(DueCall::of(Procedure::Echo, argument)).ok()?;
-    // A call by privacy would need random octets; those of the draw in memory count from 0 on.
+    // The client's random octets count from 0 on, so that each run is the same; a program takes them from the system.
     let mut draw = MemDraw::new(Vec::new(alloc));
     hold_by_password(
         alloc,
@@ -63,7 +60,6 @@ fn hold(alloc: Global, link: &mut PostsLink) -> Option<Talk>
         &mut draw,
         USER,
         PASSWORD,
-        DRAWS,
         terms,
         due.as_slice(),
     )

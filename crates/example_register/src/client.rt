@@ -1,8 +1,8 @@
 //! A client of the register.
 
 ghost use Rattle.std.specs.Prelude.{◌≡◌, ◌≤◌, IfSome, IsTrue, None, false, length};
-ghost use Rattle.service_kit.specs.Calling.{Rose, TalkedOf, calls_of, password_start};
-ghost use Rattle.example_register.specs.Client.{WritesAndReads, register_terms, write_then_read};
+ghost use Rattle.service_kit.specs.Calling.{Rose, TalkedByPassword, calls_of};
+ghost use Rattle.example_register.specs.Client.{write_then_read};
 
 use crate::register::{PROGRAM, READ, VERSION, WRITE};
 use service_kit::{
@@ -76,24 +76,14 @@ pub fn write_and_read<L: Link, D: Draw>(
     word: u32,
 ) -> Option<Talk>
     requires { L.closed link.old ≡ false }
-    ensures told { IsTrue (L.tells link.old) → IfSome result (λ talk. WritesAndReads
-        (D.tells draw.new) (D.given draw.old) (D.given draw.new) word (L.wire link.old)
-        (L.wire link.new) talk.outcome talk.results.items talk.parting) }
+    ensures told { IsTrue (L.tells link.old) → IfSome result (λ talk. TalkedByPassword
+        (D.tells draw.new) (D.given draw.old) (D.given draw.new) USER.now PASSWORD.now TERMS
+        (write_then_read word) (L.wire link.old) (L.wire link.new) talk.outcome
+        talk.results.items talk.parting) }
     ensures fault { IfSome result (λ talk. talk.parting ≡ Parting.Refused ClientRefusal.LinkFault
         → Rose (L.faults link.old) (L.faults link.new)) }
     ensures wanting { result ≡ None → link.new ≡ link.old }
 {
     let calls = calls(alloc, word)?;
-    let mut draws = [0; 66];
-    draw.fill(&mut draws);
-    hold_by_password(
-        alloc,
-        link,
-        draw,
-        USER,
-        PASSWORD,
-        draws,
-        TERMS,
-        calls.as_slice(),
-    )
+    hold_by_password(alloc, link, draw, USER, PASSWORD, TERMS, calls.as_slice())
 }

@@ -5,7 +5,9 @@ ghost use Rattle.std.specs.Int.{w32, from_be_bytes};
 ghost use Rattle.service_kit.specs.Apart.{IsApart, NoList};
 ghost use Rattle.example_register.specs.Register.{register_says, result_of};
 
-use service_kit::{Answerer, Caller, Fault, Octets, Outcome, Program, ProgramId, Service};
+use service_kit::{
+    Answerer, Caller, Fault, Octets, Outcome, Program, ProgramId, Service, prove_told_apart,
+};
 use std::alloc::Global;
 
 /// The program (of the range that RFC 5531 section 8.3 leaves to users).
@@ -118,4 +120,6 @@ impl Answerer<u32> for Words {
 pub fn prove_apart()
     ensures args { IsApart register_says }
     ensures results { (procedure before : ℕ) → NoList (result_of procedure before) }
-{}
+{
+    prove_told_apart();
+}

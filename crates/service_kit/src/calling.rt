@@ -9,6 +9,7 @@ ghost use Rattle.gss_client.specs.Conferring.{calls_of};
 ghost use Rattle.gss_client.specs.Holding.{TalkedOf};
 ghost use Rattle.stream_buffers.specs.Buffered.{link_below, read_ahead, written_behind};
 ghost use Rattle.system_devices.specs.Devices.{dialed_address};
+ghost use Rattle.service_kit.specs.Calling.{IsDrawn, TalkedByPassword};
 ghost use Rattle.service_kit.specs.Calling.{password_facts, password_start, start_from};
 
 use gss_client::{ClientRefusal, DueCall, Parting, Query, Start, Talk, Terms, hold_calls};
@@ -85,9 +86,8 @@ fn hold_by<L: Link, D: Draw, Q: Query>(
     Some(hold_calls(alloc, link, draw, start, due))
 }
 
-/// Holds a session that a user's password authenticates (SCRAM, RFC 5802): creates a context, makes these calls, and destroys the context.
-/// `draws` are random octets that no other session has. None where memory wants, and then nothing was used.
-pub fn hold_by_password<L: Link, D: Draw, Q: Query>(
+/// Holds a session by this password with these random octets.
+fn hold_with<L: Link, D: Draw, Q: Query>(
     alloc: Global,
     link: &mut L,
     draw: &mut D,
@@ -118,6 +118,37 @@ pub fn hold_by_password<L: Link, D: Draw, Q: Query>(
     } = make_mechs(alloc)?;
     let mechs = standard_mechs(alloc, kerberos, microsoft, scram).ok()?;
     hold_by(alloc, link, draw, mechs, facts, terms, due)
+}
+
+/// Holds a session that a user's password authenticates (SCRAM, RFC 5802): draws its random octets, creates a context, makes these calls, and
+/// destroys the context. None where memory wants, and then the link wasn't used.
+pub fn hold_by_password<L: Link, D: Draw, Q: Query>(
+    alloc: Global,
+    link: &mut L,
+    draw: &mut D,
+    user: &str,
+    password: &str,
+    terms: Terms,
+    due: &[DueCall<Q>],
+) -> Option<Talk>
+    requires unclosed { L.closed link.old ≡ false }
+    ensures told { IsTrue (L.tells link.old) → IfSome result (λ talk. TalkedByPassword
+        (D.tells draw.new) (D.given draw.old) (D.given draw.new) user.now password.now terms
+        (calls_of Q.says due.now) (L.wire link.old) (L.wire link.new) talk.outcome
+        talk.results.items talk.parting) }
+    ensures fault { IfSome result (λ talk. talk.parting ≡ Parting.Refused ClientRefusal.LinkFault
+        → Rose (L.faults link.old) (L.faults link.new)) }
+    ensures wanting { result ≡ None → link.new ≡ link.old }
+    ensures drawn { result ≡ None → IsTrue (D.tells draw.new)
+        → IsDrawn 66 (D.given draw.old) (D.given draw.new) }
+    ensures tells { L.tells link.new ≡ L.tells link.old }
+    ensures unclosed { L.closed link.new ≡ false }
+    ensures faults { L.faults link.old ≤ L.faults link.new }
+    ensures drawing { IsTrue (D.tells draw.new) → IsTrue (D.tells draw.old) }
+{
+    let mut draws = [0; 66];
+    draw.fill(&mut draws);
+    hold_with(alloc, link, draw, user, password, draws, terms, due)
 }
 
 /// A connection to an address, a host and a port with a colon between them, which is made when it is first used. It reads ahead and writes
