@@ -1,5 +1,5 @@
 -- By their form octets are told from a list of mechanisms, and from the header of a call.
-use Rattle.std.proofs.Common.{◌≡◌, ℕ, ◌+◌, ◌<◌, ◌≤◌, ◌^◌, lit<, true, List, ◌++◌, length, replicate, Result, Ok, Err, is_ok, refl, ap, ◌∙◌, arith}
+use Rattle.std.proofs.Common.{◌≡◌, ℕ, ◌+◌, ◌<◌, ◌≤◌, ◌^◌, lit<, true, List, ◌++◌, length, replicate, Result, Ok, Err, is_ok, refl, sym, ap, subst, ◌∙◌, append_assoc, length-append, arith}
 use Rattle.std.proofs.lemmas.Nat.{from_be_bytes-to_be_bytes_4}
 use Rattle.gss_base.specs.declared.mech.KerberosName.TheVariants.{Standard, Microsoft}
 use Rattle.gss_base.specs.declared.mech.MechName.{MechName}
@@ -9,7 +9,7 @@ use Rattle.der_core.specs.Values.{object_identifier}
 use Rattle.rpc_msgs.specs.Words.{word, opaque, padding_length}
 use Rattle.rpc_msgs.specs.Xdr.{whole, opaque_at, end_at}
 use Rattle.rpc_msgs.specs.declared.xdr_reader.XdrRefusal.{XdrRefusal}
-use Rattle.rpc_msgs.proofs.WordLengths.{length-word, length-opaque}
+use Rattle.rpc_msgs.proofs.WordLengths.{length-word}
 use Rattle.rpc_msgs.proofs.XdrLaws.{bind_ok}
 use Rattle.posts_program.specs.Opaque.{opaque_alone}
 use Rattle.posts_program.proofs.Arguments.{none-left}
@@ -28,9 +28,6 @@ oid-high names.Scram = lit< tt
 low-apart : (octets : List ℕ) → (4 < length octets → length octets < 96 → first_word octets ≤ 65536) → NoList octets
 low-apart octets low = record { other = λ name long few same. (let high = oid-high name in let l = low long few in omega (arith, high, l, same)) }
 
-pub low-first : (octets : List ℕ) → first_word octets ≤ 65536 → NoList octets
-low-first octets low = low-apart octets (λ long few. low)
-
 pub few-apart : (octets : List ℕ) → length octets ≤ 4 → NoList octets
 few-apart octets few = low-apart octets (λ long short. absurd (omega (arith, few, long)))
 
@@ -44,13 +41,28 @@ first-is : (number : ℕ) (rest : List ℕ) → number < 2 ^ 32 → first_word (
 unfolding word
 first-is number rest h = from_be_bytes-to_be_bytes_4 number h
 
+pub tagged-apart : (number : ℕ) (rest : List ℕ) → number ≤ 65536 → NoList (word number ++ rest)
+tagged-apart number rest low = low-apart (word number ++ rest) (λ long few. (let is = first-is number rest (omega (arith, low)) in omega (arith, low, is)))
+
+-- an opaque's length stands in front, whatever stands behind it
+behind-length : (count : ℕ) (front rest : List ℕ) → count ≤ length front → NoList (word count ++ (front ++ rest))
+behind-length count front rest all = low-apart (word count ++ (front ++ rest)) (λ long few. (
+    let whole = length-append (word count) (front ++ rest) in
+    let part = length-append front rest in
+    let short : count < 96 = omega (arith, few, all, whole, part) in
+    let is = first-is count (front ++ rest) (omega (arith, short)) in
+    omega (arith, short, is)))
+
 pub opaque-apart : (octets : List ℕ) → NoList (opaque octets)
 unfolding opaque
-opaque-apart octets = low-apart (opaque octets) (λ long few. (
-    let all = length-opaque octets in
-    let short : length octets < 96 = omega (arith, few, all) in
-    let is : first_word (word (length octets) ++ (octets ++ replicate (padding_length (length octets)) 0)) ≡ length octets = first-is (length octets) _ (omega (arith, short)) in
-    omega (arith, short, is)))
+opaque-apart octets = behind-length (length octets) octets _ (omega arith)
+
+pub followed-apart : (octets rest : List ℕ) → NoList (opaque octets ++ rest)
+unfolding opaque
+followed-apart octets rest =
+    let filler : List ℕ = replicate (padding_length (length octets)) 0 in
+    let same : (word (length octets) ++ (octets ++ filler)) ++ rest ≡ word (length octets) ++ (octets ++ (filler ++ rest)) = simp append_assoc in
+    subst NoList (sym same) (behind-length (length octets) octets (filler ++ rest) (omega arith))
 
 -- ---- octets that are read as one opaque
 
@@ -84,4 +96,4 @@ read-header octets limit ok =
     short : (n : ℕ) → n ≡ 0 → length octets ≡ 4 + n + padding_length n → length octets < 44
     short n e f = let g : length octets ≡ 4 + 0 + padding_length 0 = f ∙ ap (λ k. 4 + k + padding_length k) e in omega (arith, g)
 
-pub ruleset apart = (low-first, few-apart, many-apart, word-apart, opaque-apart, read-apart, read-header)
+pub ruleset apart = (few-apart, many-apart, word-apart, opaque-apart, tagged-apart, followed-apart, read-apart, read-header)
