@@ -107,14 +107,6 @@ impl<G: Gate> Gate for Between<G> {
     }
 }
 
-/// The octets of a cell, in hexadecimal.
-fn octets_of(cells: &mut Cells<'_>, cell: &str) -> Vec<u8> {
-    let mut parts = Cells::new(cells.alloc(), cell, ' ');
-    let octets = parts.octets();
-    cells.expect(parts.are_well());
-    octets
-}
-
 /// Says the rule by which a record is answered, and the reply.
 fn say(said: &mut Said, answered: &Answered) {
     said.number(answered.rule as u64);
@@ -148,11 +140,11 @@ pub fn hold<G: Gate>(
         own: first,
         other: second,
         desk,
-        between: Some(octets_of(cells, held.between)),
+        between: Some(cells.octets_in(held.between)),
         answered: None,
     };
     let mut desk = desk_of(cells, held.limits, held.nows);
-    let octets = octets_of(cells, held.first);
+    let octets = cells.octets_in(held.first);
     let answer = answered(alloc, &mut gate, &mut desk, octets.as_slice());
     say(said, &answer);
     let Between {

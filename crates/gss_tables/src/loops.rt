@@ -160,13 +160,16 @@ fn sevens(alloc: Global) -> Vec<u8> {
 
 /// Says the kept answers of a link and the entries of its book.
 fn say_left(alloc: Global, said: &mut Said, link: BookLink) {
-    let (book, _draw, kept) = link.into_parts();
+    let (book, draw, kept) = link.into_parts();
     say_kept(
         alloc,
         said,
         kept.as_slice(),
         entries::entries_in(book.seat.log()),
     );
+    drop(book);
+    drop(draw);
+    drop(kept);
 }
 
 /// By the cells of the offer's letters and the words, what a run of the client prints over a book; then what is kept of the answers. The
@@ -278,20 +281,34 @@ fn say_log(said: &mut Said, entries: &[Entry]) {
     }
 }
 
-/// Says what came of a session over a link, which has to have memory and the width of its book: how many records were written, and the log.
-fn say_spoken(alloc: Global, said: &mut Said, spoken: &Spoken, link: BookLink) {
-    if link.starved() || link.width() != WIDTH {
-        said.starve();
-    }
-    let (book, _draw, kept) = link.into_parts();
-    match settled(kept.as_slice()) {
+/// Says what came of a session, how many records were written, and the log.
+fn say_spoken(alloc: Global, said: &mut Said, spoken: &Spoken, kept: &[Kept], entries: &[Entry]) {
+    match settled(kept) {
         Some(other) => say_outcome(alloc, said, &spoken.outcome, &other),
         None => said.starve(),
     }
     said.octets(spoken.who.as_slice());
     said.number(spoken.next as u64);
     said.number(kept.len() as u64);
-    say_log(said, entries::entries_in(book.seat.log()));
+    say_log(said, entries);
+}
+
+/// The same of a session over a link, which has to have memory and the width of its book.
+fn say_over(alloc: Global, said: &mut Said, spoken: &Spoken, link: BookLink) {
+    if link.starved() || link.width() != WIDTH {
+        said.starve();
+    }
+    let (book, draw, kept) = link.into_parts();
+    say_spoken(
+        alloc,
+        said,
+        spoken,
+        kept.as_slice(),
+        entries::entries_in(book.seat.log()),
+    );
+    drop(book);
+    drop(draw);
+    drop(kept);
 }
 
 /// Says what comes of a session over a link.
@@ -301,7 +318,7 @@ fn pair(alloc: Global, setup: InitSetup, link: BookLink, said: &mut Said)
 {
     let mut link = link;
     match speak(alloc, &mut link, setup) {
-        Some(spoken) => say_spoken(alloc, said, &spoken, link),
+        Some(spoken) => say_over(alloc, said, &spoken, link),
         None => said.starve(),
     }
 }
@@ -347,10 +364,16 @@ fn pair_over(setting: &Setting, alloc: Global, facts: InitFacts, offer: &str, sa
     requires list { plain_lists.is_own_list facts.list ≡ true }
     requires bare { facts.negotiates ≡ false → plain_lists.is_bare_list facts.list ≡ true }
 {
-    match make_mechs(alloc).zip(loop_of(alloc, setting, offer, Vec::new(alloc))) {
-        Some((made, link)) => pair_by_all(alloc, made, (facts, link), said),
+    let Some(made) = make_mechs(alloc) else {
+        drop(facts);
+        said.starve();
+        return;
+    };
+    match loop_of(alloc, setting, offer, Vec::new(alloc)) {
+        Some(link) => pair_by_all(alloc, made, (facts, link), said),
         None => {
             drop(facts);
+            drop(made);
             said.starve();
         }
     }

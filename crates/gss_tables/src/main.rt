@@ -8,6 +8,7 @@ mod between;
 mod books;
 mod connections;
 mod cores;
+mod datagrams;
 mod drills;
 mod endings;
 mod entries;
@@ -33,8 +34,8 @@ use std::{fs, io};
 use table::{Table, compared};
 use table_setting::{Files, Setting};
 
-/// Those of the server, of the book, of both ends together, of the client, and of the command that makes files.
-const TABLES: [Table; 23] = [
+/// Those of the server, of the book, of both ends together, of the client, of the command that makes files, and of datagrams.
+const TABLES: [Table; 24] = [
     Table::Records,
     Table::Rules,
     Table::Connections,
@@ -58,6 +59,7 @@ const TABLES: [Table; 23] = [
     Table::Trials,
     Table::MadeFiles,
     Table::ReadBack,
+    Table::Datagrams,
 ];
 
 /// Those of the world, which has a setting of its own, and of drills, which have none.

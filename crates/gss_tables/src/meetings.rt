@@ -1,18 +1,18 @@
 //! Two desks at once, whose gates wait for each other.
 
-ghost use Rattle.std.specs.Prelude.{◌≡◌, IfSome};
+ghost use Rattle.std.specs.Prelude.{◌≡◌, false, IfSome};
 ghost use Rattle.std.specs.List.{AllByRecursion};
 ghost use Rattle.server_desks.specs.Desks.{IsFresh};
 
 use crate::rules::answers;
 use crate::served::{Answers, list_gate};
-use crate::servers::{MemDesk, desk, octets_of};
+use crate::servers::{MemDesk, desk};
 use accept_book::{AdmitRefusal, Admitted, Lease, LookRefusal, Negotiated, Receipt};
 use gate_models::GateAnswer;
 use gss_server::{DataCall, Gate};
 use rpc_program::ProgramId;
 use rpcsec_bodies::Service;
-use sec_base::Moment;
+use sec_base::{Link, MemLink, Moment};
 use server_desks::{Job, run_desks};
 use std::alloc::Global;
 use std::sync::atomic::AtomicU64;
@@ -144,14 +144,15 @@ impl Gate for Meeting<'_> {
     }
 }
 
-/// A desk over a stream, with a gate of these answers that waits so.
+/// A desk over a link, with a gate of these answers that waits so.
 fn job<'a>(
     alloc: Global,
-    input: Vec<u8>,
+    link: MemLink,
     answers: Vec<GateAnswer>,
     wait: Wait,
     came: &'a AtomicU64,
 ) -> Option<Job<MemDesk, Meeting<'a>>>
+    requires { ⟦<MemLink as Link>⟧.closed link ≡ false }
     ensures { IfSome result (λ job. IsFresh job.desk) }
 {
     let inner = list_gate(alloc, answers).ok()?;
@@ -161,7 +162,7 @@ fn job<'a>(
         wait,
         met: false,
     };
-    let desk = desk(alloc, input, Vec::new(alloc), Vec::new(alloc));
+    let desk = desk(alloc, link, Vec::new(alloc));
     Some(Job::new(alloc, desk, gate, 1, 128))
 }
 
@@ -188,10 +189,10 @@ fn jobs<'a>(
     let alloc = cells.alloc();
     let [one, other] = waits_of(cells);
     let (stream, said) = (cells.word(), cells.word());
-    let input = octets_of(files, cells, stream);
-    let first = job(alloc, input, answers(cells, said), one, came)?;
-    let input = octets_of(files, cells, stream);
-    let second = job(alloc, input, answers(cells, said), other, came)?;
+    let link = files.link(cells, stream, Vec::new(alloc));
+    let first = job(alloc, link, answers(cells, said), one, came)?;
+    let link = files.link(cells, stream, Vec::new(alloc));
+    let second = job(alloc, link, answers(cells, said), other, came)?;
     match Vec::from_array(alloc, [first, second]) {
         Ok(jobs) => Some(jobs),
         Err(_) => None,

@@ -1,6 +1,6 @@
 //! A run of the server over two desks in memory, side by side.
 
-ghost use Rattle.std.specs.Prelude.{◌≡◌, true, is_some, IfSome};
+ghost use Rattle.std.specs.Prelude.{◌≡◌, true, false, is_some, IfSome};
 ghost use Rattle.sec_base.specs.MemPort.{none_closed};
 ghost use Rattle.std.specs.List.{AllByRecursion};
 ghost use Rattle.server_desks.specs.Desks.{IsFresh};
@@ -29,24 +29,25 @@ pub type MemDesk = Desk<
     Words,
 >;
 
-/// One link with this stream, whose calls of these numbers fail; none where there is no memory for it.
-fn links(alloc: Global, input: Vec<u8>, failing: Vec<u64>) -> Vec<MemLink>
+/// One link; none where there is no memory for it.
+fn links(alloc: Global, link: MemLink) -> Vec<MemLink>
+    requires { ⟦<MemLink as Link>⟧.closed link ≡ false }
     ensures { none_closed (⟦<MemLink as Link>⟧.closed) result.items ≡ true }
 {
     let mut links = Vec::new(alloc);
-    let link = MemLink::new(alloc, input, Vec::new(alloc), failing);
     match links.push(link) {
         Ok(()) => links,
         Err(_) => Vec::new(alloc),
     }
 }
 
-/// A desk over a port with one stream; the calls of these numbers fail of its link and of its port.
-pub fn desk(alloc: Global, input: Vec<u8>, link: Vec<u64>, port: Vec<u64>) -> MemDesk
+/// A desk over a port with one link; the calls of these numbers fail of its port.
+pub fn desk(alloc: Global, link: MemLink, port: Vec<u64>) -> MemDesk
+    requires { ⟦<MemLink as Link>⟧.closed link ≡ false }
     ensures { IsFresh result }
 {
     Desk::new(
-        MemPort::new(links(alloc, input, link), port),
+        MemPort::new(links(alloc, link), port),
         MemClock::new(Vec::new(alloc)),
         MemDraw::new(Vec::new(alloc)),
         KeepReceipts::new(alloc),
@@ -55,19 +56,14 @@ pub fn desk(alloc: Global, input: Vec<u8>, link: Vec<u64>, port: Vec<u64>) -> Me
     )
 }
 
-/// Two desks with a stream each; the calls of these numbers fail of the first one's link and of the second one's port. None where there is
-/// no memory for them.
-fn desks(
-    alloc: Global,
-    first: Vec<u8>,
-    second: Vec<u8>,
-    link: Vec<u64>,
-    port: Vec<u64>,
-) -> Option<Vec<MemDesk>>
+/// Two desks with a link each; the calls of these numbers fail of the second one's port. None where there is no memory for them.
+fn desks(alloc: Global, first: MemLink, second: MemLink, port: Vec<u64>) -> Option<Vec<MemDesk>>
+    requires first { ⟦<MemLink as Link>⟧.closed first ≡ false }
+    requires second { ⟦<MemLink as Link>⟧.closed second ≡ false }
     ensures { IfSome result (λ desks. AllByRecursion IsFresh desks.items) }
 {
-    let first = desk(alloc, first, link, Vec::new(alloc));
-    let second = desk(alloc, second, Vec::new(alloc), port);
+    let first = desk(alloc, first, Vec::new(alloc));
+    let second = desk(alloc, second, port);
     match Vec::from_array(alloc, [first, second]) {
         Ok(desks) => Some(desks),
         Err(_) => None,
@@ -75,29 +71,31 @@ fn desks(
 }
 
 /// The first of them alone.
-fn one_desk(alloc: Global, first: Vec<u8>, link: Vec<u64>) -> Option<Vec<MemDesk>>
+fn one_desk(alloc: Global, first: MemLink) -> Option<Vec<MemDesk>>
+    requires { ⟦<MemLink as Link>⟧.closed first ≡ false }
     ensures { IfSome result (λ desks. AllByRecursion IsFresh desks.items) }
 {
-    let first = desk(alloc, first, link, Vec::new(alloc));
+    let first = desk(alloc, first, Vec::new(alloc));
     match Vec::from_array(alloc, [first]) {
         Ok(desks) => Some(desks),
         Err(_) => None,
     }
 }
 
-/// Two desks, or the first alone where there is no second stream.
+/// Two desks, or the first alone where there is no second link.
 fn desks_by(
     alloc: Global,
-    first: Vec<u8>,
-    second: Option<Vec<u8>>,
-    link: Vec<u64>,
+    first: MemLink,
+    second: Option<MemLink>,
     port: Vec<u64>,
 ) -> Option<Vec<MemDesk>>
+    requires first { ⟦<MemLink as Link>⟧.closed first ≡ false }
+    requires second { IfSome second (λ link. ⟦<MemLink as Link>⟧.closed link ≡ false) }
     ensures { IfSome result (λ desks. AllByRecursion IsFresh desks.items) }
 {
     match second {
-        Some(second) => desks(alloc, first, second, link, port),
-        None => one_desk(alloc, first, link),
+        Some(second) => desks(alloc, first, second, port),
+        None => one_desk(alloc, first),
     }
 }
 
@@ -138,14 +136,6 @@ fn run<R: Threads + Wait + Sync>(
     devices.say(said);
 }
 
-/// The octets of a cell, which may name them.
-pub fn octets_of(files: &Files, cells: &mut Cells<'_>, cell: &str) -> Vec<u8> {
-    let mut parts = Cells::new(cells.alloc(), cell, ' ');
-    let octets = files.octets(&mut parts);
-    cells.expect(parts.are_well());
-    octets
-}
-
 /// By the cells of its words, the stream, and the numbers of the calls of the second port and of standard error that fail, what a run says.
 pub fn answer<R: Threads + Wait + Sync>(
     rt: &R,
@@ -156,17 +146,15 @@ pub fn answer<R: Threads + Wait + Sync>(
     let alloc = cells.alloc();
     let words = words(cells);
     let stream = cells.word();
-    let (first, second) = (
-        octets_of(files, cells, stream),
-        octets_of(files, cells, stream),
-    );
+    let first = files.link(cells, stream, Vec::new(alloc));
+    let second = files.link(cells, stream, Vec::new(alloc));
     let (port, sink) = (numbers(cells), numbers(cells));
     let mut shelf = files.shelf(cells, Vec::new(alloc));
     let mut devices = Devices::new(alloc, Moment::start(), Vec::new(alloc), sink);
     let Some(disk) = disk_in_memory(alloc, Vec::new(alloc)) else {
         return said.starve();
     };
-    match desks(alloc, first, second, Vec::new(alloc), port) {
+    match desks(alloc, first, second, port) {
         Some(mut desks) => run(
             rt,
             alloc,
@@ -190,13 +178,15 @@ fn say_written(desks: &[MemDesk], said: &mut Said) {
     }
 }
 
-/// The stream of the second desk by the next cell; `none` where there is one desk alone.
-fn second_stream(files: &Files, cells: &mut Cells<'_>) -> Option<Vec<u8>> {
-    let cell = cells.word();
+/// The link of the second desk by its stream's cell; `none` where there is one desk alone.
+fn second_link(files: &Files, cells: &mut Cells<'_>, cell: &str) -> Option<MemLink>
+    ensures { IfSome result (λ link. ⟦<MemLink as Link>⟧.closed link ≡ false) }
+{
     if cell == "none" {
         return None;
     }
-    Some(octets_of(files, cells, cell))
+    let alloc = cells.alloc();
+    Some(files.link(cells, cell, Vec::new(alloc)))
 }
 
 /// By the cells of its words, the stream of each desk, and the numbers of the calls of the first link, the second port, the shelf and standard
@@ -209,15 +199,17 @@ pub fn answer_failing<R: Threads + Wait + Sync>(
 ) {
     let alloc = cells.alloc();
     let words = words(cells);
-    let (first, second) = (files.octets(cells), second_stream(files, cells));
+    let [first, second] = [cells.word(), cells.word()];
     let (link, port) = (numbers(cells), numbers(cells));
+    let first = files.link(cells, first, link);
+    let second = second_link(files, cells, second);
     let (shelf, sink) = (numbers(cells), numbers(cells));
     let mut shelf = files.shelf(cells, shelf);
     let mut devices = Devices::new(alloc, Moment::start(), Vec::new(alloc), sink);
     let Some(disk) = disk_in_memory(alloc, Vec::new(alloc)) else {
         return said.starve();
     };
-    match desks_by(alloc, first, second, link, port) {
+    match desks_by(alloc, first, second, port) {
         Some(mut desks) => {
             run(
                 rt,
@@ -250,13 +242,11 @@ fn run_once<R: Threads + Wait + Sync>(
 {
     let alloc = cells.alloc();
     let [first, second] = streams;
-    let (first, second) = (
-        octets_of(files, cells, first),
-        octets_of(files, cells, second),
-    );
+    let first = files.link(cells, first, Vec::new(alloc));
+    let second = files.link(cells, second, Vec::new(alloc));
     let mut shelf = files.shelf(cells, Vec::new(alloc));
     let mut devices = Devices::new(alloc, Moment::start(), Vec::new(alloc), Vec::new(alloc));
-    match desks(alloc, first, second, Vec::new(alloc), Vec::new(alloc)) {
+    match desks(alloc, first, second, Vec::new(alloc)) {
         Some(mut desks) => {
             run(
                 rt,

@@ -4,8 +4,8 @@ ghost use Rattle.std.specs.Prelude.{map};
 ghost use Rattle.init_ends.specs.Arming.{AreStandard};
 
 use crate::{
-    books, connections, cores, drills, exchanges, links, loops, made_files, meetings, records,
-    rules, runs, seats, servers, sessions, talks, worlds,
+    books, connections, cores, datagrams, drills, exchanges, links, loops, made_files, meetings,
+    records, rules, runs, seats, servers, sessions, talks, worlds,
 };
 use init_ends::standard_mechs;
 use mech_objects::{Mech, make_mechs};
@@ -41,6 +41,7 @@ pub enum Table {
     Trials,
     MadeFiles,
     ReadBack,
+    Datagrams,
     Worlds,
     Exchanges,
     Drills,
@@ -71,6 +72,7 @@ impl Table {
             Table::Trials => "trials.txt",
             Table::MadeFiles => "made_files.txt",
             Table::ReadBack => "read_back.txt",
+            Table::Datagrams => "datagrams.txt",
             Table::Worlds => "worlds.txt",
             Table::Exchanges => "exchanges.txt",
             Table::Drills => "drills.txt",
@@ -171,6 +173,7 @@ impl<R: Wait> Rows for Set<'_, R> {
             Table::Bodies => talks::open_body(files, cells, said),
             Table::MadeFiles => made_files::make(cells, said),
             Table::ReadBack => made_files::read_back(cells, said),
+            Table::Datagrams => datagrams::answer(setting, files, cells, said),
             Table::Worlds => worlds::answer(setting, files.octets.as_str(), cells, said),
             Table::Exchanges => exchanges::answer(setting, cells, said),
             Table::Drills => drills::answer(cells, said),

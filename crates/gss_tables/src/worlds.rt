@@ -20,7 +20,7 @@ use sec_base::{Moment, Octets};
 use spnego_core::AcceptSetup;
 use std::alloc::Global;
 use table_rows::{Cells, Said};
-use table_setting::{Setting, octets_by_name, saying};
+use table_setting::{Setting, octets_by_name, octets_in, saying};
 use world_laws::{Happened, WorldEvent};
 use world_runs::World;
 
@@ -52,14 +52,6 @@ fn is_changed(bytes: &mut Vec<u8>) -> bool {
     let place = bytes.len() - 9;
     bytes[place] ^= 1;
     true
-}
-
-/// The octets of a part, where those of a name stand in this text.
-fn octets_in(asked: &mut Cells<'_>, names: &str, part: &str) -> Octets {
-    let mut one = Cells::new(asked.alloc(), part, ' ');
-    let octets = octets_by_name(&mut one, names);
-    asked.expect(one.are_well());
-    Octets::from_vec(octets)
 }
 
 /// Says the status of the reply to a call which was accepted.
@@ -110,7 +102,7 @@ impl Run {
         let part = asked.word();
         match part.strip_prefix('#') {
             Some(said) => self.handed(asked, said),
-            None => octets_in(asked, names, part),
+            None => Octets::from_vec(octets_in(asked, part, names)),
         }
     }
 

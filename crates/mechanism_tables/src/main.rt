@@ -6,6 +6,10 @@ mod initiating;
 mod kerberos;
 mod objects;
 mod peers;
+mod sasl;
+mod sasl_change;
+mod sasl_ends;
+mod sasl_exchange;
 mod scram_exchanges;
 mod scram_initiator;
 mod scram_texts;
@@ -19,7 +23,7 @@ use std::{fs, io};
 use table::{Table, compared};
 use table_setting::Setting;
 
-const TABLES: [Table; 17] = [
+const TABLES: [Table; 19] = [
     Table::Requests,
     Table::Replies,
     Table::Faults,
@@ -37,6 +41,8 @@ const TABLES: [Table; 17] = [
     Table::FirstTokens,
     Table::PeerReplies,
     Table::PeerRequests,
+    Table::SaslExchanges,
+    Table::SaslAltered,
 ];
 
 fn main(rt: HostRuntime) -> io::Result<()> {

@@ -1,8 +1,8 @@
 //! The tables, and the comparison of one with what the calls answer.
 
 use crate::{
-    accepting, initiating, kerberos, objects, peers, scram_exchanges, scram_initiator, scram_texts,
-    stamps, third, tickets, verifiers,
+    accepting, initiating, kerberos, objects, peers, sasl, scram_exchanges, scram_initiator,
+    scram_texts, stamps, third, tickets, verifiers,
 };
 use std::alloc::Global;
 use table_rows::{Cells, Rows, Said};
@@ -28,6 +28,8 @@ pub enum Table {
     FirstTokens,
     PeerReplies,
     PeerRequests,
+    SaslExchanges,
+    SaslAltered,
 }
 
 impl Table {
@@ -51,6 +53,8 @@ impl Table {
             Table::FirstTokens => "first_tokens.txt",
             Table::PeerReplies => "peer_replies.txt",
             Table::PeerRequests => "peer_requests.txt",
+            Table::SaslExchanges => "sasl_exchanges.txt",
+            Table::SaslAltered => "sasl_altered.txt",
         }
     }
 
@@ -65,6 +69,8 @@ impl Table {
                 | Table::Objects
                 | Table::Third
                 | Table::FirstTokens
+                | Table::SaslExchanges
+                | Table::SaslAltered
         )
     }
 
@@ -87,6 +93,8 @@ impl Table {
             Table::FirstTokens => initiating::first(setting, cells, said),
             Table::PeerReplies => peers::begun(cells, said),
             Table::PeerRequests => peers::accepted(cells, said),
+            Table::SaslExchanges => sasl::exchanged(setting, cells, said),
+            Table::SaslAltered => sasl::altered(setting, cells, said),
         }
     }
 }

@@ -5,7 +5,7 @@
 
 ghost use Rattle.std.specs.Prelude.{◌≡◌, false};
 
-use crate::names::octets_by_name;
+use crate::names::{octets_by_name, octets_in};
 use sec_base::{
     Link, MemClock, MemDraw, MemLink, MemShelf, MemSink, Moment, NamedFile, Octets, Text,
 };
@@ -47,6 +47,18 @@ impl Files {
     /// The octets of the next cell, which may name them.
     pub fn octets(&self, cells: &mut Cells<'_>) -> Vec<u8> {
         octets_by_name(cells, self.octets.as_str())
+    }
+
+    /// The octets of a part of a cell, which may name them.
+    pub fn octets_in(&self, cells: &mut Cells<'_>, part: &str) -> Vec<u8> {
+        octets_in(cells, part, self.octets.as_str())
+    }
+
+    /// A link whose stream is a cell's octets, which may name them, and whose calls of these numbers fail.
+    pub fn link(&self, cells: &mut Cells<'_>, cell: &str, failing: Vec<u64>) -> MemLink
+        ensures { ⟦<MemLink as Link>⟧.closed result ≡ false }
+    {
+        link_by(cells, cell, self.octets.as_str(), failing)
     }
 }
 
@@ -115,15 +127,32 @@ pub fn clock(alloc: Global, moment: Moment) -> MemClock {
     MemClock::new(moments)
 }
 
-/// A link whose stream is this cell's octets, in hexadecimal.
+/// Adds the octets of a read, and answers whether it could.
+fn is_given(input: &mut Vec<u8>, sizes: &mut Vec<usize>, octets: &[u8]) -> bool {
+    input.extend_from_slice(octets).is_ok() && sizes.push(octets.len()).is_ok()
+}
+
+/// A link whose stream is this cell's octets, which may name those in this text. Where a `|` stands between them, a read ends. The calls of
+/// these numbers fail.
+fn link_by(cells: &mut Cells<'_>, cell: &str, text: &str, failing: Vec<u64>) -> MemLink
+    ensures { ⟦<MemLink as Link>⟧.closed result ≡ false }
+{
+    let alloc = cells.alloc();
+    let (mut input, mut sizes) = (Vec::new(alloc), Vec::new(alloc));
+    for part in cell.split('|') {
+        let octets = octets_in(cells, part, text);
+        let is_well = is_given(&mut input, &mut sizes, octets.as_slice());
+        cells.expect(is_well);
+    }
+    MemLink::new(alloc, input, sizes, failing)
+}
+
+/// A link whose stream is this cell's octets.
 pub fn link(cells: &mut Cells<'_>, cell: &str) -> MemLink
     ensures { ⟦<MemLink as Link>⟧.closed result ≡ false }
 {
     let alloc = cells.alloc();
-    let mut parts = Cells::new(alloc, cell, ' ');
-    let input = parts.octets();
-    cells.expect(parts.are_well());
-    MemLink::new(alloc, input, Vec::new(alloc), Vec::new(alloc))
+    link_by(cells, cell, "", Vec::new(alloc))
 }
 
 /// What a run goes by beside its link and its files: a clock that stands, random octets that count 00, 01 and so on, and both streams.

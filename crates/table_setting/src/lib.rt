@@ -10,5 +10,5 @@ mod setting;
 pub use devices::{
     Devices, Files, clock, link, numbers, numbers_of, present, say_list, words, words_of,
 };
-pub use names::{named, octets_by_name};
+pub use names::{named, octets_by_name, octets_in};
 pub use setting::{Setting, acceptor, credential, draws, initiator, own_draws};

@@ -44,14 +44,20 @@ fn is_read(alloc: Global, text: &str, said: &str, all: &mut Vec<u8>) -> bool {
     }
 }
 
-/// The octets of the next cell: its parts, between which `+` stands; `times*part` is a part so many times, and `@name` the octets of this
-/// name in the text.
-pub fn octets_by_name(cells: &mut Cells<'_>, text: &str) -> Vec<u8> {
+/// The octets of a part of a cell: its own parts, between which `+` stands; `times*part` is a part so many times, and `@name` the octets of
+/// this name in the text.
+pub fn octets_in(cells: &mut Cells<'_>, part: &str, text: &str) -> Vec<u8> {
     let alloc = cells.alloc();
     let mut all = Vec::new(alloc);
-    for said in cells.word().split('+') {
+    for said in part.split('+') {
         let is_well = is_read(alloc, text, said, &mut all);
         cells.expect(is_well);
     }
     all
+}
+
+/// The same of the next cell.
+pub fn octets_by_name(cells: &mut Cells<'_>, text: &str) -> Vec<u8> {
+    let cell = cells.word();
+    octets_in(cells, cell, text)
 }

@@ -12,16 +12,26 @@ const MOST: u64 = 1_000_000;
 /// The microseconds of one second.
 const MICROS: u64 = 1_000_000;
 
+/// What was read as a moment, which has to be one.
+pub fn known(cells: &mut Cells<'_>, moment: Option<Moment>) -> Moment {
+    cells.expect(moment.is_some());
+    moment.unwrap_or(Moment::start())
+}
+
 /// The next cell's moment, in microseconds.
 fn moment(cells: &mut Cells<'_>) -> Moment {
     let micros = cells.number();
-    match Moment::new(micros / MICROS, (micros % MICROS) as u32) {
-        Some(moment) => moment,
-        None => {
-            cells.expect(false);
-            Moment::start()
-        }
-    }
+    known(
+        cells,
+        Moment::new(micros / MICROS, (micros % MICROS) as u32),
+    )
+}
+
+/// The octet of the next cell, 20 times.
+pub fn repeated(cells: &mut Cells<'_>) -> [u8; 20] {
+    let who = cells.number();
+    cells.expect(who < 256);
+    [(who % 256) as u8; 20]
 }
 
 /// Says a verdict: T is Taken, R and a place Repeat, S and the greatest moment Stale, F Full.
@@ -44,12 +54,8 @@ fn verdict_said(said: &mut Said, verdict: CacheVerdict) {
 
 /// The mark of the parts `who/at`, where the octet `who` is repeated 20 times.
 fn mark(parts: &mut Cells<'_>) -> Mark {
-    let (who, at) = (parts.number(), moment(parts));
-    parts.expect(who < 256);
-    Mark {
-        who: [(who % 256) as u8; 20],
-        at,
-    }
+    let (who, at) = (repeated(parts), moment(parts));
+    Mark { who, at }
 }
 
 /// Says what is asked of a cache beside an admission: `H` how many marks it holds, `G` its greatest moment, `now!` to take note of a

@@ -8,6 +8,7 @@ mod connections;
 mod contexts;
 mod devices;
 mod files;
+mod journals;
 mod links;
 mod mechs;
 mod messages;

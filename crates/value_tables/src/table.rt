@@ -1,8 +1,8 @@
 //! The tables, and the comparison of one with what the calls answer.
 
 use crate::{
-    caches, commands, contexts, devices, links, mechs, messages, names, records, secured, values,
-    windows, xdr,
+    caches, commands, contexts, devices, journals, links, mechs, messages, names, records, secured,
+    values, windows, xdr,
 };
 use std::alloc::Global;
 use table_rows::{Cells, Rows, Said};
@@ -46,10 +46,12 @@ pub enum Table {
     Contexts,
     ContextWindows,
     ContextsInUse,
+    Journals,
+    Crashes,
 }
 
 /// All of them.
-pub const TABLES: [Table; 36] = [
+pub const TABLES: [Table; 38] = [
     Table::Pieces,
     Table::Framed,
     Table::Calls,
@@ -86,6 +88,8 @@ pub const TABLES: [Table; 36] = [
     Table::Contexts,
     Table::ContextWindows,
     Table::ContextsInUse,
+    Table::Journals,
+    Table::Crashes,
 ];
 
 impl Table {
@@ -128,6 +132,8 @@ impl Table {
             Table::Contexts => "contexts.txt",
             Table::ContextWindows => "context_windows.txt",
             Table::ContextsInUse => "contexts_in_use.txt",
+            Table::Journals => "journals.txt",
+            Table::Crashes => "crashes.txt",
         }
     }
 }
@@ -190,6 +196,8 @@ impl Rows for Table {
             Table::Contexts => contexts::replaced(cells, said),
             Table::ContextWindows => contexts::windowed(cells, said),
             Table::ContextsInUse => contexts::ordered(cells, said),
+            Table::Journals => journals::answered(cells, said),
+            Table::Crashes => journals::left(cells, said),
         }
     }
 }

@@ -1,6 +1,6 @@
-//! What becomes of a message on its way.
+//! What becomes of a message of SASL GSSAPI on its way.
 
-use crate::ends::opened;
+use crate::sasl_ends::opened;
 use krb_tokens::Side;
 use sasl_gssapi::SaslAccept;
 use sasl_layer::end_of;

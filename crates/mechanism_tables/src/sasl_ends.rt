@@ -1,4 +1,4 @@
-//! Steps of both ends, whose refusals are said.
+//! Steps of both ends of SASL GSSAPI, whose refusals are said.
 
 ghost use Rattle.std.specs.Prelude.{◌≡◌, true, IfSome};
 ghost use Rattle.mech_objects.specs.declared.ask.Stage.TheVariants.{Fresh};

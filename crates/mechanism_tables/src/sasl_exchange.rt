@@ -1,11 +1,11 @@
-//! An exchange of both ends, one of whose messages is changed on its way.
+//! An exchange of both ends of SASL GSSAPI, one of whose messages is changed on its way.
 
 ghost use Rattle.std.specs.Prelude.{◌≡◌, true};
 ghost use Rattle.mech_objects.specs.declared.ask.Stage.TheVariants.{Fresh};
 ghost use Rattle.sasl_gssapi.specs.Ends.{init_by, holds};
 
-use crate::change::{Change, zeros};
-use crate::ends::{client_ends, client_goes, refused, server_ends, server_goes, starts};
+use crate::sasl_change::{Change, zeros};
+use crate::sasl_ends::{client_ends, client_goes, refused, server_ends, server_goes, starts};
 use gss_base::KerberosName;
 use mech_objects::{KerberosMech, Mech, ScramMech};
 use sasl_gssapi::{SaslAccept, SaslInit};

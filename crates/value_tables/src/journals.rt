@@ -1,5 +1,6 @@
 //! A journal over a disk in memory.
 
+use crate::caches::{known, repeated};
 use gss_base::Mark;
 use replay_journal::{Journal, JournalRefusal, JournalVerdict, MemDisk, Request, Unkept};
 use sec_base::Moment;
@@ -14,23 +15,14 @@ const FILLERS: [u8; 3] = [0x00, 0x4a, 0xff];
 
 /// The next part's moment, in seconds.
 fn moment(cells: &mut Cells<'_>) -> Moment {
-    match Moment::new(cells.number(), 0) {
-        Some(moment) => moment,
-        None => {
-            cells.expect(false);
-            Moment::start()
-        }
-    }
+    let seconds = cells.number();
+    known(cells, Moment::new(seconds, 0))
 }
 
 /// The mark of the parts `who/at`, where the octet `who` is repeated 20 times.
 fn mark(parts: &mut Cells<'_>) -> Mark {
-    let (who, at) = (parts.number(), moment(parts));
-    parts.expect(who < 256);
-    Mark {
-        who: [(who % 256) as u8; 20],
-        at,
-    }
+    let (who, at) = (repeated(parts), moment(parts));
+    Mark { who, at }
 }
 
 /// Says a verdict: T is Taken, R and a place Repeat, S and the seconds of the greatest moment Stale, F Full, D DiskFault, C Closed, N
