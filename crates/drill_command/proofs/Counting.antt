@@ -1,5 +1,5 @@
 -- A book with the program of posts: its results are by its log, and its count is that of the log.
-use Rattle.std.proofs.Common.{◌≡◌, ◌≢◌, ◌⊎◌, inl, inr, ◌∙◌, ℕ, max, true, false, refl, sym, ap, subst, List, [], ◌∷◌, Option, Some, None, Result, Ok, Err}
+use Rattle.std.proofs.Common.{◌≡◌, ◌≢◌, ◌⊎◌, inl, inr, ◌∙◌, ℕ, max, true, false, refl, sym, ap, subst, List, ◌∷◌, Option, Some, None, Result, Ok, Err}
 use Rattle.sha1.specs.Sha1.{sha1}
 use Rattle.rpc_msgs.proofs.XdrLaws.{ok_is}
 use Rattle.rpcsec_bodies.specs.declared.service.Service.{Service}

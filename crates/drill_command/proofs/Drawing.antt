@@ -1,5 +1,5 @@
 -- The calls of a drill are such as the service takes.
-use Rattle.std.proofs.Common.{◌≡◌, ◌≢◌, ◌<◌, ◌≤◌, ◌+◌, ◌*◌, ◌%◌, ◌/◌, ◌^◌, ℕ, zero, suc, List, [], ◌∷◌, length, refl, arith, slice_index, ap, sym, ◌∙◌}
+use Rattle.std.proofs.Common.{◌≡◌, ◌≢◌, ◌<◌, ◌≤◌, ◌+◌, ◌*◌, ◌%◌, ℕ, zero, suc, List, [], ◌∷◌, length, refl, arith, ap}
 use Rattle.std.specs.List.{AllByRecursion}
 use Rattle.std.proofs.lemmas.Nat.{mod_below}
 use Rattle.rpc_msgs.specs.Words.{opaque}
@@ -10,7 +10,6 @@ use Rattle.rpcsec_bodies.specs.declared.service.Service.TheVariants as services
 use Rattle.accept_book.specs.Honest.{IsOctets}
 use Rattle.posts_client.specs.declared.procedure.Procedure.{Procedure}
 use Rattle.posts_client.specs.declared.procedure.Procedure.TheVariants.{Null, Echo, Whoami, Post, Count}
-use Rattle.gss_client.specs.Conferring.{DueCall}
 use Rattle.rpcsec_bodies.specs.Service.{number_of}
 use Rattle.posts_program.specs.Posts.{posts_says}
 use Rattle.posts_client.specs.Procedure.{procedure_number, query_of}

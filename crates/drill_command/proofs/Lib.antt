@@ -1,3 +1,4 @@
+mod Counted
 pub mod Counting
 pub mod Linking
 pub mod Chained
@@ -9,3 +10,4 @@ pub mod Objects
 pub mod Rested
 pub mod Stepping
 pub mod Worked
+mod Walks

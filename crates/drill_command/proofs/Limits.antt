@@ -1,5 +1,5 @@
 -- What a book is asked leaves its limits as they are.
-use Rattle.std.proofs.Common.{◌≡◌, ◌∙◌, inl, inr, ap, refl, sym, subst, ℕ, Bool, true, false, List, [], ◌∷◌, ◌++◌}
+use Rattle.std.proofs.Common.{◌≡◌, inl, inr, ap, refl, ℕ, Bool, true, false, List, ◌++◌}
 use Rattle.context_table.specs.Places.{Places}
 use Rattle.rpc_msgs.specs.Records.{octets_in}
 use Rattle.spnego_core.specs.declared.accept_end.AcceptEnd.{AcceptEnd}
@@ -9,7 +9,7 @@ use Rattle.accept_book.specs.RecordShown.{Asked, AskedStep, AskedLook, AskedAdmi
 use Rattle.accept_book.specs.declared.book_answer.Admitted.{Admitted}
 use Rattle.accept_core.specs.declared.entry.Receipt.{Receipt}
 use Rattle.rpc_program.specs.Programs.{Serving}
-use Rattle.gss_server.specs.Asking.{Asking, BookAnswers}
+use Rattle.gss_server.specs.Asking.{BookAnswers}
 use Rattle.gss_server.specs.Connections.{asked_for, asked_in}
 use Rattle.gss_server.specs.declared.answer.Kept.{Kept}
 use Rattle.gate_models.specs.Looping.{Rest, Looped}

@@ -1,5 +1,5 @@
 -- A session that fits is done: what it did to a book at rest.
-use Rattle.std.proofs.Common.{map, ◌≡◌, ◌≢◌, ◌⊎◌, inl, inr, ℕ, ◌+◌, ◌-◌, ◌*◌, nat_le, ◌<◌, ◌≤◌, ◌%◌, lit<, nat_lt, get_or, Bool, true, false, if◌then◌else◌, refl, ap, sym, subst, ◌∙◌, arith, List, [], ◌∷◌, ◌++◌, length, take, replicate, Option, Some, None}
+use Rattle.std.proofs.Common.{map, ◌≡◌, ◌≢◌, ◌⊎◌, inl, inr, ℕ, ◌+◌, ◌-◌, ◌*◌, nat_le, ◌<◌, ◌≤◌, ◌%◌, lit<, nat_lt, get_or, Bool, true, false, if◌then◌else◌, refl, ap, sym, subst, ◌∙◌, arith, List, [], ◌∷◌, ◌++◌, length, take, replicate, Option, Some}
 use Rattle.std.specs.List.{AllByRecursion}
 use Rattle.std.proofs.lemmas.Bool.{le-leb}
 use Rattle.std.proofs.lemmas.List.{append-nil, take_all}
@@ -15,6 +15,7 @@ use Rattle.spnego_core.specs.declared.setup.AcceptSetup.{AcceptSetup}
 use Rattle.accept_book.specs.Booking.{BookOf}
 use Rattle.accept_book.specs.RecordShown.{Asked}
 use Rattle.accept_book.specs.declared.book_answer.Admitted.{Admitted}
+use Rattle.rpc_program.specs.Programs.{Serving}
 use Rattle.posts_program.specs.Posts.{posts_says, result_of}
 use Rattle.pair_laws.specs.Answering.{AnswersBy}
 use Rattle.pair_laws.specs.Posts.{IsName, posts_in, posts_behind, posts_results, posts_server}
@@ -44,6 +45,7 @@ use Rattle.pair_laws.specs.Walking.{HasNames, IsNamed}
 use Rattle.pair_laws.proofs.Linked.{planned-on}
 use Rattle.drill_command.proofs.Drawing.{all-proper, all-posted}
 use Rattle.drill_command.specs.Calls.{calls_from}
+use Rattle.drill_command.specs.Drilled.{after_start}
 use Rattle.drill_command.specs.Fitting.{tokens_for}
 use Rattle.drill_plan.specs.Generator.{octets_from}
 use Rattle.drill_plan.specs.Limits.{book_limits, drill_limits}
@@ -91,11 +93,11 @@ all-by moment (one ∷ kept) h octets = (record { lasting = omega (arith, h.0); 
 -- ---- the session
 
 -- what such a session's link shows
-served-of : (gained : List (Asked Admitted) → Type 0) (book new : BookOf) (now : ℕ) (start : StartSays) (wanted : List DueCall) (kept : List Kept) (outcome : Option Outcome) (results : List (List ℕ)) (ended : Option ClientRefusal) (tokens count : ℕ) (kind : MechKind) (draws : List ℕ)
+served-of : (gained : List (Asked Admitted) → Type 0) (book new : BookOf) (now : ℕ) (start : StartSays) (wanted : List DueCall) (kept : List Kept) (outcome : Option Outcome) (results : List (List ℕ)) (ended : Option ClientRefusal) (tokens count : ℕ) (kind : MechKind) (client server : ℕ) (draws : List ℕ)
     → ((asked : List (Asked Admitted)) → gained asked → Asking (AnswersBy (posts_server 128)) book asked new) → start.first ≡ 1 → AllByRecursion HasOctets kept → FitsRest tokens kind count now start wanted book kept
-    → (h : Holds gained (posts_server 128).serving now start wanted kept false outcome results ended) → ArePlanned posts_says start.terms start.first wanted draws → (talk_of start wanted draws (h.talked.took ++ h.wire.coming)).written ≡ h.talked.wrote
+    → (h : Holds gained (posts_server 128).serving now client server start wanted kept false outcome results ended) → ArePlanned posts_says start.terms start.first wanted draws → (talk_of start wanted draws (h.talked.took ++ h.wire.coming)).written ≡ h.talked.wrote
     → IsServed (posts_server 128) now tokens start kind count now wanted draws (h.talked.took ++ h.wire.coming) book new h.looped.1.records h.looped.1.answers h.looped.1.rest
-served-of gained book new now start wanted kept outcome results ended tokens count kind draws asks first octets f h planned wrote =
+served-of gained book new now start wanted kept outcome results ended tokens count kind client server draws asks first octets f h planned wrote =
     let l = h.looped.1 in
     let keeps : kept ≡ l.answers = l.keeps ∙ (ap (λ (ks : List Kept). l.answers ++ ks) l.stands.1 ∙ append-nil l.answers) in
     record {
@@ -168,27 +170,61 @@ done-of book new now start wanted one tokens count kind draws stream wrote undra
       rests = d.rests;
     }
 
-fed-session : (gained : List (Asked Admitted) → Type 0) (book new : BookOf) (now : ℕ) (start : StartSays) (wanted : List DueCall) (kept : List Kept) (one : DrillSession) (tokens count : ℕ) (kind : MechKind)
+fed-session : (gained : List (Asked Admitted) → Type 0) (book new : BookOf) (now : ℕ) (start : StartSays) (wanted : List DueCall) (kept : List Kept) (one : DrillSession) (tokens count : ℕ) (kind : MechKind) (client server : ℕ)
     → ((asked : List (Asked Admitted)) → gained asked → Asking (AnswersBy (posts_server 128)) book asked new) → start.first ≡ 1 → CreatedLaw → IsLinkTold one.outcome → AllByRecursion HasOctets kept
     → one.ended ≢ Some LinkFault → one.ended ≢ Some NoMemory → FitsRest tokens kind count now start wanted book kept
-    → Holds gained (posts_server 128).serving now start wanted kept false one.outcome one.results.items one.ended
+    → Holds gained (posts_server 128).serving now client server start wanted kept false one.outcome one.results.items one.ended
     → RestsAgain tokens kind count now start wanted book new one
-fed-session gained book new now start wanted kept one tokens count kind asks first created told octets linked remembered f h =
+fed-session gained book new now start wanted kept one tokens count kind client server asks first created told octets linked remembered f h =
     let t = h.talked in
     let more : List ℕ = replicate (16 * length wanted) 0 in
     let w = t.whole (λ e. linked (h.ends ∙ ap early_end e)) (λ e. remembered (h.ends ∙ ap early_end e)) more in
     let planned : ArePlanned posts_says start.terms start.first wanted (t.drawn ++ more) = planned-on posts_says start.terms start.first wanted t.drawn f.called (omega (arith, first)) f.each t.octets in
     done-of book new now start wanted one tokens count kind (t.drawn ++ more) (t.took ++ h.wire.coming) t.wrote more h.looped.1.records h.looped.1.answers h.looped.1.rest h.parting first f.numbers f.posted created told
-    (served-of gained book new now start wanted kept one.outcome one.results.items one.ended tokens count kind (t.drawn ++ more) asks first octets f h planned w.written) w h.ends
+    (served-of gained book new now start wanted kept one.outcome one.results.items one.ended tokens count kind client server (t.drawn ++ more) asks first octets f h planned w.written) w h.ends
 
-pub session-rests : (gained : List (Asked Admitted) → Type 0) (book new : BookOf) (now : ℕ) (start : StartSays) (wanted : List DueCall) (kept : List Kept) (starved : Bool) (one : DrillSession) (tokens count : ℕ) (kind : MechKind)
+pub session-rests : (gained : List (Asked Admitted) → Type 0) (book new : BookOf) (now : ℕ) (start : StartSays) (wanted : List DueCall) (kept : List Kept) (starved : Bool) (one : DrillSession) (tokens count : ℕ) (kind : MechKind) (client server : ℕ)
     → ((asked : List (Asked Admitted)) → gained asked → Asking (AnswersBy (posts_server 128)) book asked new) → start.first ≡ 1 → CreatedLaw → IsLinkTold one.outcome → AllByRecursion HasOctets kept
     → (one.ended ≡ Some LinkFault → starved ≡ true) → starved ≡ false → one.ended ≢ Some NoMemory → FitsRest tokens kind count now start wanted book kept
-    → Holds gained (posts_server 128).serving now start wanted kept starved one.outcome one.results.items one.ended
+    → Holds gained (posts_server 128).serving now client server start wanted kept starved one.outcome one.results.items one.ended
     → RestsAgain tokens kind count now start wanted book new one
-session-rests gained book new now start wanted kept starved one tokens count kind asks first created told octets fault fed remembered f held =
-    fed-session gained book new now start wanted kept one tokens count kind asks first created told octets (λ e. true-false starved (fault e) fed) remembered f
-    (subst (λ (b : Bool). Holds gained (posts_server 128).serving now start wanted kept b one.outcome one.results.items one.ended) fed held)
+session-rests gained book new now start wanted kept starved one tokens count kind client server asks first created told octets fault fed remembered f held =
+    fed-session gained book new now start wanted kept one tokens count kind client server asks first created told octets (λ e. true-false starved (fault e) fed) remembered f
+    (subst (λ (b : Bool). Holds gained (posts_server 128).serving now client server start wanted kept b one.outcome one.results.items one.ended) fed held)
+
+-- the same talk where no memory was wanted, by what else is so of whatever was asked
+pub talked-by : (gained asks : List (Asked Admitted) → Type 0) → ((asked : List (Asked Admitted)) → gained asked → asks asked) → (serves : Serving) (moment client server : ℕ) (start : StartSays) (wanted : List DueCall) (kept : List Kept) (starved : Bool) (outcome : Option Outcome) (results : List (List ℕ)) (ended : Option ClientRefusal) → starved ≡ false
+    → Holds gained serves moment client server start wanted kept starved outcome results ended → Holds asks serves moment client server start wanted kept false outcome results ended
+talked-by gained asks so serves moment client server start wanted kept starved outcome results ended fed held =
+    let h : Holds gained serves moment client server start wanted kept false outcome results ended = subst (λ (b : Bool). Holds gained serves moment client server start wanted kept b outcome results ended) fed held in
+    let l = h.looped.1 in
+    record {
+      wire = h.wire;
+      parting = h.parting;
+      given = h.given;
+      talked = h.talked;
+      ends = h.ends;
+      looped = (
+        h.looped.0,
+        record {
+          records = l.records;
+          rest = l.rest;
+          answers = l.answers;
+          last = l.last;
+          each = l.each;
+          spelled = l.spelled;
+          place = l.place;
+          counted = l.counted;
+          exact = l.exact;
+          decided = l.decided;
+          keeps = l.keeps;
+          timed = l.timed;
+          replies = l.replies;
+          stands = (so (asked_in serves l.records l.answers) l.stands.0, l.stands.1, l.stands.2);
+        },
+      );
+      drawn = h.drawn;
+    }
 
 -- ---- the next session of a drill
 
@@ -227,13 +263,21 @@ fits-next number moment count value start book kept few limits now stamp terms p
   posted = all-posted count value;
 }
 
-pub next-of : (number count value moment client : ℕ) (start : StartSays) (wanted : List DueCall) (old new : BookOf) (kept : List Kept) (one : DrillSession) → number ≤ 100 → book_limits old ≡ drill_limits → moment ≡ moment_of number → start.setup.stamp ≡ moment → start.terms ≡ terms_of number → start ≡ drill_start number moment (octets_from 66 client) → wanted ≡ calls_from count value
+pub next-of : (number count value moment client server drawn answered : ℕ) (start : StartSays) (wanted : List DueCall) (old new : BookOf) (kept : List Kept) (one : DrillSession) → number ≤ 100 → book_limits old ≡ drill_limits → moment ≡ moment_of number → start.setup.stamp ≡ moment → start.terms ≡ terms_of number → start ≡ drill_start number moment (octets_from 66 client) → wanted ≡ calls_from count value
     → IsPaired number start.setup kept
+    → drawn ≡ after_start client → answered ≡ server
+    → ∥ Holds (λ asked. Asking (AnswersBy (posts_server 128)) old asked new) (posts_server 128).serving moment drawn answered start wanted kept false one.outcome one.results.items one.ended ∥₁
     → ((tokens : ℕ) (kind : MechKind) (before : ℕ) → FitsRest tokens kind before moment start wanted old kept → ∥ RestsAgain tokens kind before moment start wanted old new one ∥₁)
-    → IsNext number client (calls_from count value) old new kept one
-next-of number count value moment client start wanted old new kept one few limits now stamp terms begun same pair held = record {
+    → IsNext number client server (calls_from count value) old new kept one
+next-of number count value moment client server drawn answered start wanted old new kept one few limits now stamp terms begun same pair is on talked held = record {
   start = start;
   begun = begun ∙ ap (λ (m : ℕ). drill_start number m (octets_from 66 client)) now;
+  held =
+      let asks : List (Asked Admitted) → Type 0 = λ asked. Asking (AnswersBy (posts_server 128)) old asked new in
+      let Talked : ℕ → ℕ → ℕ → List DueCall → Type 0 = λ m x y cs. ∥ Holds asks (posts_server 128).serving m x y start cs kept false one.outcome one.results.items one.ended ∥₁ in
+      subst (λ (cs : List DueCall). Talked (moment_of number) (after_start client) server cs) same
+      (subst (λ (y : ℕ). Talked (moment_of number) (after_start client) y wanted) on
+      (subst (λ (x : ℕ). Talked (moment_of number) x answered wanted) is (subst (λ (m : ℕ). Talked m drawn answered wanted) now talked)));
   paired = pair;
   rests = λ f.
       let tokens : ℕ = tokens_for (kind_of number) in

@@ -1,11 +1,12 @@
 -- The sessions of a drill, one after the other over one book.
-use Rattle.std.specs.Prelude.{◌≡◌, ℕ, zero, suc, List, [], ◌∷◌, ◌++◌, reverse}
+use Rattle.std.specs.Prelude.{◌≡◌, ℕ, zero, suc, ◌+◌, ◌%◌, ◌^◌, List, [], ◌∷◌, ◌++◌, reverse}
 use Rattle.accept_book.specs.Booking.{BookOf}
 use Rattle.accept_core.specs.declared.entry.Entry.{Entry}
 use Rattle.gss_server.specs.declared.answer.Kept.{Kept}
 use Rattle.gss_client.specs.Conferring.{DueCall}
 use Rattle.pair_laws.specs.Resting.{RestsAt}
 use Rattle.drill_command.specs.Drilled.{calls_of, client_before, IsDrilled}
+use Rattle.drill_command.specs.Held.{after_answers}
 use Rattle.drill_plan.specs.Limits.{book_limits, drill_limits}
 use Rattle.drill_command.specs.Rested.{IsNext}
 use Rattle.drill_plan.specs.Sessions.{session_count, moment_of}
@@ -13,23 +14,26 @@ use Rattle.drill_plan.specs.Setting.{drill_acceptor}
 use Rattle.drill_plan.specs.declared.session.DrillSession.{DrillSession}
 
 -- a session of these calls was held behind others, from one book to another; the client's generator
--- had this value
-pub record IsAdded (number client : ℕ) (wanted : List DueCall) (old new : BookOf)
+-- had this value, and the server's went on from the one to the other
+pub record IsAdded (number client server server' : ℕ) (wanted : List DueCall) (old new : BookOf)
     (sessions sessions' : List DrillSession) : Type 0 where
   pub one : DrillSession
   pub kept : List Kept
-  pub next : IsNext number client wanted old new kept one
+  pub next : IsNext number client server wanted old new kept one
+  pub goes_on : server' ≡ after_answers kept server
   pub added : sessions' ≡ sessions ++ one ∷ []
 
 -- so many sessions were held, each over the book that the one before it left, and with the octets
--- that come next of the client's generator
-abbrev pub AreHeld : ℕ → ℕ → ℕ → BookOf → BookOf → List DrillSession → Type 0
-AreHeld seed calls zero first book sessions = (book ≡ first) × (sessions ≡ [])
-AreHeld seed calls (suc number) first book sessions =
-    (before : BookOf) × (front : List DrillSession)
-    × AreHeld seed calls number first before front
-    × IsAdded number (client_before seed calls number) (calls_of seed calls number) before book
-    front sessions
+-- that come next of the client's generator and of the server's. The server's begins with the second
+-- number after the seed, and has this value in the end.
+abbrev pub AreHeld : ℕ → ℕ → ℕ → BookOf → BookOf → List DrillSession → ℕ → Type 0
+AreHeld seed calls zero first book sessions server =
+    (book ≡ first) × (sessions ≡ []) × (server ≡ (seed + 2) % 2 ^ 64)
+AreHeld seed calls (suc number) first book sessions server =
+    (before : BookOf) × (front : List DrillSession) × (value : ℕ)
+    × AreHeld seed calls number first before front value
+    × IsAdded number (client_before seed calls number) value server (calls_of seed calls number)
+    before book front sessions
 
 -- ---- all sessions
 
@@ -47,7 +51,8 @@ pub record AreAllHeld (seed calls : ℕ) (sessions : List DrillSession) (log : L
   where
     pub first : BookOf
     pub last : BookOf
+    pub server : ℕ
     pub begins : IsFirst first
-    pub held : AreHeld seed calls (session_count calls) first last sessions
+    pub held : AreHeld seed calls (session_count calls) first last sessions server
     pub log_is : reverse log ≡ last.core.history
     pub done : IsDrilled seed calls sessions log

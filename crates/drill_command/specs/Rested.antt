@@ -1,6 +1,6 @@
 -- What a session does to a book at rest.
 use Rattle.std.specs.Prelude.{◌≡◌, ℕ, ◌+◌, ◌*◌, ◌<◌, ◌≤◌, ◌^◌, List, length, map, Option, Some}
-use Rattle.std.specs.Prelude.{None}
+use Rattle.std.specs.Prelude.{None, false}
 use Rattle.std.specs.List.{AllByRecursion}
 use Rattle.sec_base.specs.Moment.{greatest_moment}
 use Rattle.gss_base.specs.declared.mech.MechKind.{MechKind}
@@ -9,8 +9,10 @@ use Rattle.spnego_core.specs.declared.outcome.Outcome.{Outcome}
 use Rattle.accept_book.specs.Booking.{BookOf, names_of}
 use Rattle.accept_core.specs.declared.entry.Entry.{Entry}
 use Rattle.gss_client.specs.Start.{StartSays}
+use Rattle.gss_server.specs.Asking.{Asking}
 use Rattle.gss_server.specs.declared.answer.Kept.{Kept}
 use Rattle.gss_client.specs.Conferring.{DueCall}
+use Rattle.pair_laws.specs.Answering.{AnswersBy}
 use Rattle.pair_laws.specs.HonestCalls.{IsToServer}
 use Rattle.pair_laws.specs.Creation.{SameLimits, Enters, padded}
 use Rattle.pair_laws.specs.Honest.{occasion_of}
@@ -18,12 +20,15 @@ use Rattle.pair_laws.specs.Linked.{LinkedLaw, kept_of}
 use Rattle.pair_laws.specs.Resting.{RestsAt}
 use Rattle.pair_laws.specs.Rows.{history_after}
 use Rattle.pair_laws.specs.Posts.{IsName, IsPosted, posts_in, posts_behind, posts_results}
+use Rattle.pair_laws.specs.Posts.{posts_server}
 use Rattle.pair_laws.specs.Running.{IsProper}
 use Rattle.posts_client.specs.declared.procedure.Procedure.{Procedure}
 use Rattle.posts_client.specs.Procedure.{query_of}
 use Rattle.posts_program.specs.Posts.{posts_says}
 use Rattle.pair_laws.specs.Walking.{IsNamed}
+use Rattle.drill_command.specs.Drilled.{after_start}
 use Rattle.drill_command.specs.Fitting.{tokens_for}
+use Rattle.drill_command.specs.Held.{Holds}
 use Rattle.drill_plan.specs.Generator.{octets_from}
 use Rattle.drill_command.specs.Paired.{IsPaired}
 use Rattle.drill_plan.specs.Sessions.{moment_of, kind_of}
@@ -98,12 +103,16 @@ pub record FitsNext (number : ℕ) (wanted : List DueCall) (book : BookOf) : Typ
   pub numbers : length wanted < 0x80000000
 
 -- the session of this number, counted from 0, began at its moment with a drill's start, by octets
--- of the client's generator, which had this value, and was given these answers, by which both ends
--- are an honest pair; it is done if it fits
-pub record IsNext (number client : ℕ) (wanted : List DueCall) (old new : BookOf)
+-- of the client's generator, which had this value. It was held so that its calls have the octets
+-- that come next of that generator, and these answers, which the book gave, those of the server's,
+-- which had this value. By them both ends are an honest pair; the session is done if it fits.
+pub record IsNext (number client server : ℕ) (wanted : List DueCall) (old new : BookOf)
     (kept : List Kept) (one : DrillSession) : Type 0 where
   pub start : StartSays
   pub begun : start ≡ drill_start number (moment_of number) (octets_from 66 client)
+  pub held : ∥ Holds (λ asked. Asking (AnswersBy (posts_server 128)) old asked new)
+      (posts_server 128).serving (moment_of number) (after_start client) server start wanted kept
+      false one.outcome one.results.items one.ended ∥₁
   pub paired : IsPaired number start.setup kept
   pub rests : FitsNext number wanted old
       → ∥ RestsAgain (tokens_for (kind_of number)) (kind_of number) number (moment_of number) start

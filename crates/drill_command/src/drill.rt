@@ -187,7 +187,7 @@ pub fn run_drill<O: Sink>(
     ensures legal { Legal result.log.width (reverse result.log.entries) }
     ensures limits { result.status ≡ 0 → log_limits result.log ≡ drill_limits }
     // The sessions were held one after the other over one book, which has this log in the end. The calls are those that the seed draws, and
-    // the octets of each session's client go on where those of the one before ended.
+    // the octets of each session's client go on where those of the one before ended, and so do those of the server.
     ensures held { (plan : Plan) → plan_of words.now ≡ Some plan → result.status ≡ 0
         → AreAllHeld plan.seed plan.calls result.sessions.items result.log.entries }
     // No session was refused, and the sessions and the log are those of the drill.

@@ -2,6 +2,7 @@
 #![tactic(auto)]
 
 mod calls;
+mod draws;
 mod drill;
 mod ends;
 mod gate;

@@ -4,9 +4,10 @@ ghost use Rattle.std.specs.Prelude.{◌≡◌, ◌≢◌, ◌⊎◌, ◌≤◌, 
 ghost use Rattle.std.specs.Prelude.{false, vec_len, reverse, Some, ℕ, [], ◌∷◌, ◌++◌, map};
 ghost use Rattle.std.specs.List.{AllByRecursion};
 ghost use Rattle.gss_base.specs.declared.mech.MechKind.{MechKind};
+ghost use Rattle.pair_laws.specs.Answering.{AnswersBy};
 ghost use Rattle.pair_laws.specs.Creation.{IsAt};
 ghost use Rattle.pair_laws.specs.Linked.{kept_of};
-ghost use Rattle.pair_laws.specs.Posts.{posts_in};
+ghost use Rattle.pair_laws.specs.Posts.{posts_in, posts_server};
 ghost use Rattle.posts_program.specs.Posts.{posts_says};
 ghost use Rattle.drill_command.specs.Paired.{HasOctets};
 ghost use Rattle.drill_command.specs.Rested.{IsLinkTold, FitsRest, RestsAgain, IsNext};
@@ -17,6 +18,7 @@ ghost use Rattle.gss_client.specs.Conferring.{calls_of};
 ghost use Rattle.posts_client.specs.Procedure.{query_of};
 ghost use Rattle.gss_client.specs.Start.{StartSays, objects_start, start_means};
 ghost use Rattle.gss_client.specs.Talk.{created_over};
+ghost use Rattle.gss_server.specs.Asking.{Asking};
 ghost use Rattle.gss_server.specs.Hearing.{serving};
 ghost use Rattle.gate_models.specs.Looping.{Since};
 ghost use Rattle.drill_plan.specs.Generator.{octets_from};
@@ -26,10 +28,11 @@ ghost use Rattle.drill_plan.specs.Setting.{drill_start, started_by};
 ghost use Rattle.drill_command.specs.Calls.{calls_from, after_calls};
 ghost use Rattle.drill_command.specs.Chained.{IsAdded, IsFirst, AreAllHeld};
 ghost use Rattle.drill_command.specs.Drilled.{after_start, after_confounders, after_client};
-ghost use Rattle.drill_command.specs.Held.{HoldsBehind, Holds};
+ghost use Rattle.drill_command.specs.Held.{HoldsBehind, Holds, after_answers};
 ghost use Rattle.drill_plan.specs.Limits.{book_limits, log_limits, drill_limits};
 
 use crate::calls::draw_calls;
+use crate::draws::{Begun, Drawing, tell_sizes};
 use crate::ends::early_end;
 use crate::gate::DrillGate;
 use crate::meeting::prove_paired;
@@ -68,13 +71,13 @@ fn tell_link(outcome: &Option<Outcome>)
     }
 }
 
-/// Holds a session over a book that begins as `J` says.
-fn hold_from<J: Beginning<DrillGate>>(
+/// Holds a session over a book that begins as `J` says, with generators that begin as `C` and `S` say.
+fn hold_from<J: Beginning<DrillGate>, C: Begun, S: Begun>(
     alloc: Global,
     book: DrillGate,
     now: Moment,
     server: Generator,
-    client: &mut Generator,
+    client: Generator,
     start: Start,
     calls: &[DueCall<Procedure>],
 ) -> Result<Held, NoMemory>
@@ -82,30 +85,38 @@ fn hold_from<J: Beginning<DrillGate>>(
     requires width { J.width ≡ 128 }
     requires moment { now ≡ J.moment }
     requires given { J.given ≡ [] }
+    requires client { client.value ≡ C.value }
+    requires server { server.value ≡ S.value }
     requires list { is_own_list (start_means start meaning).setup.list ≡ true }
     requires first { start.first ≡ 1 }
     ensures held { IfOk result (λ h. ∥ HoldsBehind
         (λ asked. Since J.begins ⟦<DrillGate as Gate>⟧.answers
-        h.book asked) (serving posts_says 128) now (created_over (start_means start meaning))
-        (calls_of query_of calls.now) h.kept.items
+        h.book asked) (serving posts_says 128) now client.value server.value
+        (created_over (start_means start meaning)) (calls_of query_of calls.now) h.kept.items
         h.starved h.session.outcome h.session.results.items h.session.ended ∥₁) }
     // By the objects of Kerberos and SCRAM: as by their credentials.
     ensures plain { (own : StartSays) → start_means start meaning ≡ objects_start own
         → IfOk result (λ h. ∥ Holds (λ asked. Since J.begins
         ⟦<DrillGate as Gate>⟧.answers h.book asked)
-        (serving posts_says 128) now own
+        (serving posts_says 128) now client.value server.value own
         (calls_of query_of calls.now) h.kept.items h.starved h.session.outcome
         h.session.results.items h.session.ended ∥₁) }
+    // The server's generator goes on after the octets of these answers.
+    ensures server { IfOk result (λ h. h.server.value ≡ after_answers h.kept.items server.value) }
     // and a fault of the link is want of memory
     ensures fault { IfOk result
         (λ h. h.session.ended ≡ Some ClientRefusal.LinkFault → h.starved ≡ true) }
 {
-    let mut link: LoopLink<DrillGate, Generator, J> = LoopLink::new(
-        alloc, book, now, server, WIDTH,
+    let draws: Drawing<S> = Drawing::new(server);
+    let mut confounders: Drawing<C> = Drawing::new(client);
+    let mut link: LoopLink<DrillGate, Drawing<S>, J> = LoopLink::new(
+        alloc, book, now, draws, WIDTH,
     )?;
-    let talk = hold_calls(alloc, &mut link, client, start, calls);
+    let talk = hold_calls(alloc, &mut link, &mut confounders, start, calls);
     let starved = link.starved();
-    let (book, server, kept) = link.into_parts();
+    let (book, draws, kept) = link.into_parts();
+    let server = draws.into_generator();
+    tell_sizes(kept.as_slice());
     let Talk {
         outcome,
         results,
@@ -131,7 +142,7 @@ pub fn hold_session(
     book: DrillGate,
     now: Moment,
     server: Generator,
-    client: &mut Generator,
+    client: Generator,
     start: Start,
     calls: &[DueCall<Procedure>],
 ) -> Result<Held, NoMemory>
@@ -140,16 +151,24 @@ pub fn hold_session(
     ensures held { IfOk result (λ h. ∥ HoldsBehind
         (λ asked. Since (λ b. b ≡ book)
         ⟦<DrillGate as Gate>⟧.answers h.book asked)
-        (serving posts_says 128) now (created_over (start_means start meaning))
-        (calls_of query_of calls.now) h.kept.items
+        (serving posts_says 128) now client.value server.value
+        (created_over (start_means start meaning)) (calls_of query_of calls.now) h.kept.items
         h.starved h.session.outcome h.session.results.items h.session.ended ∥₁) }
     // By the objects of Kerberos and SCRAM: as by their credentials.
     ensures plain { (own : StartSays) → start_means start meaning ≡ objects_start own
         → IfOk result (λ h. ∥ Holds (λ asked. Since (λ b. b ≡ book)
         ⟦<DrillGate as Gate>⟧.answers h.book asked)
-        (serving posts_says 128) now own (calls_of query_of calls.now) h.kept.items h.starved
-        h.session.outcome
-        h.session.results.items h.session.ended ∥₁) }
+        (serving posts_says 128) now client.value server.value own (calls_of query_of calls.now)
+        h.kept.items h.starved h.session.outcome h.session.results.items h.session.ended ∥₁) }
+    // Where no memory was wanted, the same with what the book answered, whose results are by its log.
+    ensures fed { (own : StartSays) → start_means start meaning ≡ objects_start own
+        → IfOk result (λ h. h.starved ≡ false
+        → book.inner.program.posts ≡ posts_in book.inner.seat.core.history
+        → ∥ Holds (λ asked. Asking (AnswersBy (posts_server 128)) book.inner.seat asked
+        h.book.inner.seat) (posts_server 128).serving now client.value server.value own
+        (calls_of query_of calls.now) h.kept.items false h.session.outcome h.session.results.items
+        h.session.ended ∥₁) }
+    ensures server { IfOk result (λ h. h.server.value ≡ after_answers h.kept.items server.value) }
     ensures limits { IfOk result (λ h. book_limits h.book.inner.seat
         ≡ book_limits book.inner.seat) }
     ensures moments { IfOk result (λ h. AllByRecursion (IsAt now) (kept_of h.kept.items)) }
@@ -170,7 +189,7 @@ pub fn hold_session(
         h.book.inner.seat h.session ∥₁) }
 {
     prove_created();
-    let held = hold_from::<Brand>(alloc, book, now, server, client, start, calls)?;
+    let held = hold_from::<Brand, Brand, Brand>(alloc, book, now, server, client, start, calls)?;
     tell_link(&held.session.outcome);
     tell_kept(held.kept.as_slice());
     Ok(held)
@@ -266,10 +285,10 @@ fn add_held(
         drop(sessions);
         return Err(NoMemory);
     }
+    let server = held.server;
     let Held {
         session,
         book,
-        server,
         kept,
         ..
     } = held;
@@ -344,9 +363,11 @@ fn next_session(
         ≡ book_limits book.inner.seat) }
     ensures next { IfOk result (λ h. h.starved ≡ false
         → h.session.ended ≢ Some ClientRefusal.NoMemory
-        → IsNext number generators.old.client.value
+        → IsNext number generators.old.client.value generators.old.server.value
         (calls_from count generators.old.calls.value) book.inner.seat h.book.inner.seat h.kept.items
         h.session) }
+    ensures server { IfOk result (λ h. h.server.value
+        ≡ after_answers h.kept.items generators.old.server.value) }
     ensures counted { IfOk result
         (λ h. h.book.inner.program.posts ≡ posts_in h.book.inner.seat.core.history) }
     ensures place { OnOk result (generators.new.calls.value
@@ -366,17 +387,9 @@ fn next_session(
     };
     let server = generators.server;
     // (the session draws of a copy)
-    let mut draws = generators.client;
+    let draws = generators.client;
     pass_calls(&mut generators.client, count);
-    let held = hold_session(
-        alloc,
-        book,
-        now,
-        server,
-        &mut draws,
-        start,
-        calls.as_slice(),
-    );
+    let held = hold_session(alloc, book, now, server, draws, start, calls.as_slice());
     drop(calls);
     let held = held?;
     match prove_paired(alloc, number, client, held.kept.as_slice()) {
@@ -406,6 +419,7 @@ fn go_on(
     ensures limits { IfOk result (λ c. book_limits c.book.inner.seat
         ≡ book_limits course.book.inner.seat) }
     ensures added { IfOk result (λ c. IsAdded number course.generators.client.value
+        course.generators.server.value c.generators.server.value
         (calls_from count course.generators.calls.value) course.book.inner.seat c.book.inner.seat
         course.sessions.items c.sessions.items) }
     ensures counted { IfOk result
@@ -435,6 +449,7 @@ fn begin(alloc: Global, seed: u64) -> Result<Course, NoMemory>
     ensures sessions { IfOk result (λ c. c.sessions.items ≡ []) }
     ensures place { IfOk result (λ c. c.generators.calls.value ≡ seed) }
     ensures client { IfOk result (λ c. c.generators.client.value ≡ (seed + 1) % 2 ^ 64) }
+    ensures server { IfOk result (λ c. c.generators.server.value ≡ (seed + 2) % 2 ^ 64) }
 {
     let book = open_book(alloc)?;
     Ok(Course {

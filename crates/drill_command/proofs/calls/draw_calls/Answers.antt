@@ -1,6 +1,5 @@
-use Rattle.std.proofs.Common.{arith, ◌∙◌, rules}
-use Rattle.posts_client.specs.Procedure.{query_of}
-use Rattle.drill_command.proofs.Stepping.{calls-more, calls-done, called-more, after_calls-more, after_calls-done}
+use Rattle.std.proofs.Common.{arith}
+use Rattle.drill_command.proofs.Stepping.{calls-done, called-more, after_calls-more, after_calls-done}
 use Rattle.drill_command.proofs.calls.draw_calls.Goals as goal
 
 pub loop-number-preserved : goal.loop-number-preserved

@@ -1,8 +1,8 @@
-use Rattle.std.proofs.Common.{◌∙◌, ◌≡◌, ◌+◌, ap, refl, arith, List, ◌∷◌, length, map}
+use Rattle.std.proofs.Common.{◌∙◌, ◌≡◌, ap, refl, arith, ◌∷◌, length, map}
 use Rattle.accept_book.specs.Booking.{BookOf}
 use Rattle.drill_plan.specs.Sessions.{session_count}
 use Rattle.drill_command.proofs.Chained.{held-more, value-more, client-more, all-held}
-use Rattle.drill_command.proofs.Objects.{objects_from, counted, first-objects, next-object, later-objects}
+use Rattle.drill_command.proofs.Objects.{counted, first-objects, next-object, later-objects}
 use Rattle.drill_command.proofs.sessions.hold_all.Goals as goal
 
 pub loop-mech-init : goal.loop-mech-init
@@ -20,7 +20,7 @@ loop-mech-init g c =
       counted = c.in_ok-course.ensures.counted;
       place = c.in_ok-course.ensures.place;
       client = c.in_ok-course.ensures.client;
-      held = (c.in_ok-course.course.book.inner.seat, c.in_ok-course.ensures.first, (refl, c.in_ok-course.ensures.sessions));
+      held = (c.in_ok-course.course.book.inner.seat, c.in_ok-course.ensures.first, (refl, c.in_ok-course.ensures.sessions, c.in_ok-course.ensures.server));
     }
 
 pub calls_in-count-requires-clause-number : goal.calls_in-count-requires-clause-number
@@ -57,7 +57,7 @@ loop-mech-preserved g c =
       counted = made.ensures.counted;
       place = value-more c.args.plan.seed c.args.plan.calls c.loop-mech.number _ _ _ c.calls_in-count.ensures i.place made.ensures.place;
       client = client-more c.args.plan.seed c.args.plan.calls c.loop-mech.number _ _ _ c.calls_in-count.ensures i.client made.ensures.client;
-      held = (i.held.0, i.held.1, held-more c.args.plan.seed c.args.plan.calls c.loop-mech.number _ _ _ i.held.0 _ _ _ _ c.calls_in-count.ensures i.place i.client i.held.2 made.ensures.added);
+      held = (i.held.0, i.held.1, held-more c.args.plan.seed c.args.plan.calls c.loop-mech.number _ _ _ _ _ i.held.0 _ _ _ _ c.calls_in-count.ensures i.place i.client i.held.2 made.ensures.added);
     }
 
 pub returns-clause-limits : goal.returns-clause-limits
@@ -67,4 +67,4 @@ pub returns-clause-held : goal.returns-clause-held
 returns-clause-held g c =
     let i = c.loop-mech.invariant in
     let done : c.loop-mech.number ≡ session_count c.args.plan.calls = omega (arith, i.all, c.in-None.ensures.steps.0) in
-    all-held c.args.plan.seed c.args.plan.calls c.loop-mech.number i.held.0 _ _ _ c.requires.calls done i.held.1 i.held.2 (c.into_log.ensures.entries ∙ ap (λ (b : BookOf). b.core.history) c.into_seat.ensures)
+    all-held c.args.plan.seed c.args.plan.calls c.loop-mech.number _ i.held.0 _ _ _ c.requires.calls done i.held.1 i.held.2 (c.into_log.ensures.entries ∙ ap (λ (b : BookOf). b.core.history) c.into_seat.ensures)

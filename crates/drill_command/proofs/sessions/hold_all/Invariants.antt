@@ -1,4 +1,4 @@
-use Rattle.std.proofs.Common.{◌≡◌, ◌≤◌, ◌+◌, vec_len, length, map}
+use Rattle.std.proofs.Common.{◌≡◌, ◌+◌, vec_len, length, map}
 use Rattle.accept_book.specs.Booking.{BookOf}
 use Rattle.pair_laws.specs.Posts.{posts_in}
 use Rattle.drill_command.specs.Chained.{IsFirst, AreHeld}
@@ -19,5 +19,5 @@ invariant-loop-mech g l = record {
   counted : l.course.book.inner.program.posts ≡ posts_in l.course.book.inner.seat.core.history;
   place : l.course.generators.calls.value ≡ value_before l.fn.plan.seed l.fn.plan.calls l.number;
   client : l.course.generators.client.value ≡ client_before l.fn.plan.seed l.fn.plan.calls l.number;
-  held : (first : BookOf) × IsFirst first × AreHeld l.fn.plan.seed l.fn.plan.calls l.number first l.course.book.inner.seat l.course.sessions.items;
+  held : (first : BookOf) × IsFirst first × AreHeld l.fn.plan.seed l.fn.plan.calls l.number first l.course.book.inner.seat l.course.sessions.items l.course.generators.server.value;
 }
