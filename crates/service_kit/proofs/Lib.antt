@@ -1,3 +1,4 @@
 mod FreshDesks
+mod Sends
 pub mod Acts
 pub mod NoKeys

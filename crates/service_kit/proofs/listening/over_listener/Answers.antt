@@ -1,0 +1,6 @@
+use denote.Param.Send.{sendable}
+use Rattle.service_kit.proofs.Sends.{patient-send, buffered-send}
+use Rattle.service_kit.proofs.listening.over_listener.Goals as goal
+
+pub run-requires-send-P-Link : goal.run-requires-send-P-Link
+run-requires-send-P-Link g c = λ κs within. search (buffered-send, patient-send, sendable) depth 20
