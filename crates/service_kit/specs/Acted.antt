@@ -6,6 +6,7 @@ use Rattle.accept_core.specs.Logs.{LogOf}
 use Rattle.accept_core.specs.declared.entry.Entry.{Entry}
 use Rattle.book_seats.specs.Acts.{Act, IsOwnEntry, Folds, calls_in, receipts_of}
 pub use Rattle.book_seats.specs.Acts.{Act, IsOwnEntry, Folds, calls_in, receipts_of}
+pub use Rattle.gss_server.specs.Programs.{Enters}
 
 -- the entries of a log, oldest first; none where no run began
 abbrev pub entries_of : Option LogOf → List Entry
