@@ -10,7 +10,7 @@ use Rattle.posts_client.specs.declared.procedure.Procedure.{Procedure}
 use Rattle.posts_client.specs.declared.procedure.Procedure.TheVariants.{Null, Echo, Whoami, Post, Count}
 use Rattle.mech_words.specs.Names.{same}
 use Rattle.client_options.specs.Words.{data_by, served, word_given, args_given, bare, with_data, numbered, asked_by, asked_in, is_command, service_given, plan_of, sources_of, words_of, negotiates_given, is_fit, IsData, IsArgument, IsOwn}
-use Rattle.client_options.specs.declared.command.Command.TheVariants.{Served, Numbered}
+use Rattle.client_options.specs.declared.command.Command.TheVariants.{Numbered}
 use Rattle.client_options.specs.declared.words.Asked.{Asked}
 use Rattle.client_options.specs.declared.words.ClientWords.{ClientWords}
 use Rattle.client_options.specs.declared.words.Plan.{Plan}

@@ -7,7 +7,7 @@ use Rattle.hex.specs.Hex.{encode_lower}
 use Rattle.rpc_msgs.specs.Xdr.{Input, whole, word_at}
 use Rattle.rpc_msgs.specs.declared.xdr_reader.XdrRefusal.{XdrRefusal}
 use Rattle.spnego_core.specs.declared.outcome.Outcome.{Outcome}
-use Rattle.posts_program.specs.Opaque.{opaque_alone}
+use Rattle.rpc_msgs.specs.Opaque.{opaque_alone}
 use Rattle.posts_client.specs.declared.procedure.Procedure.{Procedure}
 use Rattle.posts_client.specs.declared.procedure.Procedure.TheVariants.{Null, Echo, Whoami, Post}
 use Rattle.posts_client.specs.declared.procedure.Procedure.TheVariants.{Count}

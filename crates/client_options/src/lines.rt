@@ -2,15 +2,15 @@
 
 ghost use Rattle.std.specs.Prelude.{◌≡◌, ◌++◌, IfOk, OnOk};
 ghost use Rattle.rpc_msgs.specs.Xdr.{whole, word_at};
-ghost use Rattle.posts_program.specs.Opaque.{opaque_alone};
+ghost use Rattle.rpc_msgs.specs.Opaque.{opaque_alone};
 ghost use Rattle.client_options.specs.Lines.{mech_word, name_word, outcome_line, context_line};
 ghost use Rattle.client_options.specs.Lines.{octets_line, hex_line, text_line, number_line};
 ghost use Rattle.client_options.specs.Lines.{served_line, result_line, lines};
 
 use crate::command::Command;
 use gss_base::MechKind;
-use posts_client::{Procedure, opaque_alone};
-use rpc_msgs::XdrReader;
+use posts_client::Procedure;
+use rpc_msgs::{XdrReader, opaque_alone};
 use sec_base::{NoMemory, Octets};
 use spnego_core::Outcome;
 use std::alloc::Global;

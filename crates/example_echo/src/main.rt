@@ -6,11 +6,11 @@
 
 ghost use Rattle.std.specs.Prelude.{◌≡◌, false};
 
-use posts_client::{Procedure, opaque_alone};
+use posts_client::Procedure;
 use posts_program::{Posts, PostsWords};
 use service_kit::{
     BenchLink, DueCall, Link, MemDraw, Octets, Parting, Service, Spelled, Talk, Terms,
-    hold_by_password, link_in_memory,
+    hold_by_password, link_in_memory, opaque_alone,
 };
 use spnego_core::Outcome;
 use std::alloc::Global;

@@ -5,7 +5,7 @@ use Rattle.rpc_msgs.specs.Words.{opaque}
 use Rattle.rpc_msgs.specs.Xdr.{opaque_at}
 use Rattle.rpc_msgs.proofs.XdrLaws.{opaque_law}
 use Rattle.rpcsec_msgs.proofs.BodyLaws.{end-only}
-use Rattle.posts_program.specs.Opaque.{opaque_alone}
+use Rattle.rpc_msgs.specs.Opaque.{opaque_alone}
 use Rattle.posts_program.specs.Posts.{is_one_opaque}
 
 pub alone-read : (limit : ℕ) (octets : List ℕ) → limit < 2 ^ 32 → length octets ≤ limit → opaque_alone limit (opaque octets) ≡ Ok octets

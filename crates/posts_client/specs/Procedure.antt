@@ -5,7 +5,7 @@ use Rattle.rpc_msgs.specs.declared.numbers.TheConstants.{NULL}
 use Rattle.rpc_msgs.specs.declared.xdr_reader.XdrRefusal.{XdrRefusal}
 use Rattle.posts_program.specs.declared.numbers.TheConstants.{ECHO, WHOAMI, POST, COUNT}
 use Rattle.posts_program.specs.declared.numbers.TheConstants.{MOST_POSTED}
-use Rattle.posts_program.specs.Opaque.{opaque_alone}
+use Rattle.rpc_msgs.specs.Opaque.{opaque_alone}
 use Rattle.posts_client.specs.declared.procedure.Procedure.{Procedure}
 use Rattle.posts_client.specs.declared.procedure.Procedure.TheVariants as procedures
 use Rattle.gss_client.specs.Query.{QuerySays}

@@ -3,5 +3,4 @@
 
 mod procedure;
 
-pub use posts_program::opaque_alone;
 pub use procedure::Procedure;

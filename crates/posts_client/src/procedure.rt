@@ -5,8 +5,8 @@ ghost use Rattle.std.specs.Str.{is_utf8};
 
 use gss_client::Query;
 use posts_program::numbers::{COUNT, ECHO, MOST_POSTED, POST, WHOAMI};
-use posts_program::opaque_alone;
 use rpc_msgs::numbers::NULL;
+use rpc_msgs::opaque_alone;
 use std::str::from_utf8;
 
 /// A procedure of the program of posts.

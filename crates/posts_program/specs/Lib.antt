@@ -1,2 +1,1 @@
-pub mod Opaque
 pub mod Posts

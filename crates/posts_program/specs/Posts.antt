@@ -6,7 +6,7 @@ use Rattle.rpc_msgs.specs.declared.numbers.TheConstants.{NULL}
 use Rattle.rpcsec_bodies.specs.declared.service.Service.{Service}
 use Rattle.rpcsec_bodies.specs.declared.service.Service.TheVariants as services
 use Rattle.rpc_program.specs.Programs.{ProgramSays}
-use Rattle.posts_program.specs.Opaque.{opaque_alone}
+use Rattle.rpc_msgs.specs.Opaque.{opaque_alone}
 use Rattle.posts_program.specs.declared.numbers.TheConstants.{PROGRAM, VERSION, ECHO, WHOAMI, POST}
 use Rattle.posts_program.specs.declared.numbers.TheConstants.{COUNT, MOST_POSTED, MOST_POSTS}
 

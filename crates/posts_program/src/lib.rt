@@ -1,11 +1,11 @@
 //! The program of posts (own): an echo, its caller's name, posts and their count, as a program that is served.
 #![tactic(auto)]
 
+mod laws;
 pub mod numbers;
-mod opaque;
 mod posts;
 mod words;
 
-pub use opaque::opaque_alone;
+pub use laws::prove_apart;
 pub use posts::Posts;
 pub use words::PostsWords;

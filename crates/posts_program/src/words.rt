@@ -7,9 +7,8 @@ ghost use Rattle.rpc_program.specs.declared.limits.TheConstants.{MOST};
 ghost use Rattle.posts_program.specs.Posts.{is_one_opaque, result_of};
 
 use crate::numbers::{COUNT, ECHO, MOST_POSTED, POST, PROGRAM, VERSION, WHOAMI};
-use crate::opaque::opaque_alone;
-use rpc_msgs::XdrWriter;
 use rpc_msgs::numbers::NULL;
+use rpc_msgs::{XdrWriter, opaque_alone};
 use rpc_program::{Answerer, Caller, Outcome, ProgramId};
 use rpcsec_bodies::Service;
 use sec_base::{NoMemory, Octets};

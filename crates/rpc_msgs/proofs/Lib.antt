@@ -1,3 +1,4 @@
+pub mod Alone
 pub mod FragmentSteps
 pub mod InARow
 pub mod Readings

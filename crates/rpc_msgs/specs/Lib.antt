@@ -1,6 +1,7 @@
 pub mod Auths
 pub mod Calls
 pub mod Fragments
+pub mod Opaque
 pub mod Reading
 pub mod Records
 pub mod Replies

@@ -4,6 +4,7 @@
 mod auth;
 mod call;
 pub mod numbers;
+mod opaque;
 mod record;
 mod reply;
 mod reply_reading;
@@ -12,6 +13,7 @@ mod xdr_writer;
 
 pub use auth::Auth;
 pub use call::{Call, CallRefusal, read_call, write_call, write_header};
+pub use opaque::opaque_alone;
 pub use record::{RecordRefusal, next_record, write_record};
 pub use reply::{Reply, put_accepted, write_reply};
 pub use reply_reading::{ReplyRefusal, read_reply};

@@ -2,4 +2,4 @@
 pub use Rattle.rpc_program.specs.Programs.{ProgramSays, CallerOf, NONE, caller_of, Gives, IsShort}
 pub use Rattle.rpc_program.specs.declared.limits.TheConstants.{MOST}
 pub use Rattle.rpc_msgs.specs.Words.{word, opaque}
-pub use Rattle.posts_program.specs.Opaque.{opaque_alone}
+pub use Rattle.rpc_msgs.specs.Opaque.{opaque_alone}

@@ -14,8 +14,7 @@ pub use devices::hold_memory;
 pub use gss_base::MechKind;
 pub use gss_client::{ClientRefusal, DueCall, Parting, Query, Talk, Terms};
 pub use listening::serve;
-pub use posts_program::opaque_alone;
-pub use rpc_msgs::{XdrReader, XdrWriter};
+pub use rpc_msgs::{XdrReader, XdrWriter, opaque_alone};
 pub use rpc_program::{
     Answerer, Caller, Fault, Outcome, Program, ProgramId, Spelled, Speller, Unserved,
 };

@@ -11,8 +11,8 @@ use Rattle.rpc_msgs.specs.Xdr.{whole, opaque_at, end_at}
 use Rattle.rpc_msgs.specs.declared.xdr_reader.XdrRefusal.{XdrRefusal}
 use Rattle.rpc_msgs.proofs.WordLengths.{length-word}
 use Rattle.rpc_msgs.proofs.XdrLaws.{bind_ok}
-use Rattle.posts_program.specs.Opaque.{opaque_alone}
-use Rattle.posts_program.proofs.Arguments.{none-left}
+use Rattle.rpc_msgs.specs.Opaque.{opaque_alone}
+use Rattle.rpc_msgs.proofs.Alone.{none-left}
 use Rattle.told_apart.specs.Apart.{first_word, oid_word, NoHeader, NoList}
 use Rattle.told_apart.proofs.Places.{word_of, opaque-at}
 

@@ -2,9 +2,8 @@
 
 ghost use Rattle.std.specs.Prelude.{◌≡◌, ◌≤◌, ◌++◌, ℕ, List, is_ok, length, true};
 ghost use Rattle.rpc_msgs.specs.Words.{opaque, word};
-ghost use Rattle.posts_program.specs.Opaque.{opaque_alone};
-ghost use Rattle.posts_program.specs.Posts.{are_args, posts_says, result_of};
-ghost use Rattle.told_apart.specs.Apart.{IsApart, NoHeader, NoList};
+ghost use Rattle.rpc_msgs.specs.Opaque.{opaque_alone};
+ghost use Rattle.told_apart.specs.Apart.{NoHeader, NoList};
 
 /// Does nothing; its contract holds of which octets it is known by their form that they are told apart. A function that says it of a program, and
 /// calls this one, has it for what is made of these forms by cases.
@@ -24,12 +23,3 @@ pub fn prove_told_apart()
     ensures headers { (octets : List ℕ) (limit : ℕ) → is_ok (opaque_alone limit octets) ≡ true
         → NoHeader octets }
 {}
-
-/// Does nothing; its contract holds that the program of posts is told apart: its arguments, and the result of each call with such arguments.
-pub fn prove_posts_apart()
-    ensures arguments { IsApart posts_says }
-    ensures results { (procedure : ℕ) (args name : List ℕ) (posts : ℕ)
-        → are_args procedure args ≡ true → NoList (result_of procedure args name posts) }
-{
-    prove_told_apart();
-}

@@ -3,4 +3,4 @@
 
 mod laws;
 
-pub use laws::{prove_posts_apart, prove_told_apart};
+pub use laws::prove_told_apart;

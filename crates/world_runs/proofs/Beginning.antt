@@ -15,7 +15,7 @@ use Rattle.world_laws.specs.Setups.{IsSetup}
 use Rattle.world_runs.specs.Served.{served}
 use Rattle.world_runs.specs.Showing.{Ran}
 use Rattle.world_laws.specs.State.{InHand, World}
-use Rattle.told_apart.proofs.Posts.{posts-apart}
+use Rattle.posts_program.proofs.Apart.{posts-apart}
 
 line-in : (lines : List Verifier) → AreLines lines → (place : ℕ) (line : Verifier) → slice_get lines place ≡ Some line → IsLine line
 line-in [] all place line there = nothing line there

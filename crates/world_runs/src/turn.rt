@@ -38,7 +38,7 @@ pub(crate) struct Turn {
 const NO_PROCEDURE: u32 = 0xffff_ffff;
 
 /// What becomes of an admitted call, whose entry stands at this place of the log.
-#[tactic(auto, using(told_apart::proofs::Posts::posts_told))]
+#[tactic(auto, using(posts_program::proofs::Apart::posts_told))]
 fn outcome_of(
     alloc: Global,
     posts: &mut Posts,

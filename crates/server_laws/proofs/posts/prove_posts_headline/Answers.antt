@@ -1,4 +1,4 @@
-use Rattle.told_apart.proofs.Posts.{posts-apart, posts_told}
+use Rattle.posts_program.proofs.Apart.{posts-apart, posts_told}
 use Rattle.server_laws.proofs.posts.prove_posts_headline.Goals as goal
 
 pub returns-clause-arguments : goal.returns-clause-arguments

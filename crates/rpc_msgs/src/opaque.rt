@@ -3,9 +3,9 @@
 ghost use Rattle.std.specs.Prelude.{◌≡◌, ◌≤◌, IfOk, length};
 ghost use Rattle.rpc_msgs.specs.Words.{opaque};
 ghost use Rattle.rpc_msgs.specs.Xdr.{Answers};
-ghost use Rattle.posts_program.specs.Opaque.{opaque_alone};
+ghost use Rattle.rpc_msgs.specs.Opaque.{opaque_alone};
 
-use rpc_msgs::{XdrReader, XdrRefusal};
+use crate::xdr_reader::{XdrReader, XdrRefusal};
 
 /// Octets of variable length, at most `limit`, that are all there is (RFC 4506 section 4.10).
 #[tactic(auto, unfolding(crate::specs::Opaque::opaque_alone))]
