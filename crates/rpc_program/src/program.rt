@@ -58,6 +58,7 @@ pub trait Program {
     ) -> Result<Self::Ticket, Fault>
         requires has { says.has procedure ≡ true }
         requires takes { says.takes procedure args.now ≡ true }
+        requires name { length caller.now.name.now ≤ 255 }
         ensures enters { enters self.old (caller_of caller.now) procedure args.now result self.new }
         ensures kept { OnErr result (self.new ≡ self.old) };
 }
