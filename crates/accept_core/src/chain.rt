@@ -1,10 +1,12 @@
 //! Digests of entries.
-ghost use Rattle.std.specs.Prelude.{◌≡◌, ◌++◌};
+ghost use Rattle.std.specs.Prelude.{◌≡◌, ◌++◌, ◌∷◌, []};
+ghost use Rattle.std.specs.Int.{w64, to_be_bytes};
 ghost use Rattle.sha1.specs.Sha1.{sha1};
 ghost use Rattle.accept_core.specs.Chains.{text_of, settled_tag};
 
 use crate::entry::{EndCause, Entry};
-use gss_base::MechKind;
+use gss_base::{Mark, MechKind};
+use sec_base::Moment;
 use sha1::Sha1;
 
 /// The digest of six parts.
@@ -39,51 +41,92 @@ fn settled_tag(mech: MechKind) -> u8
     }
 }
 
+/// The digest of a digest and the entry with this tag of a context at a moment.
+fn chained_at(digest: &[u8; 20], tag: u8, id: u64, at: Moment) -> [u8; 20]
+    ensures { result ≡ sha1 (digest.now ++ (tag ∷ []) ++ to_be_bytes w64 id ++ to_be_bytes w64 at
+        ++ [] ++ []) }
+{
+    let at = at.total();
+    hashed(
+        digest,
+        &[tag],
+        &id.to_be_bytes(),
+        &at.to_be_bytes(),
+        &[],
+        &[],
+    )
+}
+
+/// The digest of a digest and the entry of an authenticator.
+#[tactic(auto, unfolding(crate::specs::Chains::text_of))]
+fn chained_auth(digest: &[u8; 20], id: u64, mark: &Mark, at: Moment) -> [u8; 20]
+    ensures { result ≡ sha1 (text_of digest.now (Entry.Auth id mark.now at)) }
+{
+    let stamp = mark.at.total();
+    let at = at.total();
+    hashed(
+        digest,
+        &[1],
+        &id.to_be_bytes(),
+        &at.to_be_bytes(),
+        &stamp.to_be_bytes(),
+        &mark.who,
+    )
+}
+
+/// The digest of a digest and the entry of a context that is complete.
+#[tactic(auto, unfolding(crate::specs::Chains::text_of))]
+fn chained_settled(
+    digest: &[u8; 20],
+    id: u64,
+    mech: MechKind,
+    names: &[u8; 20],
+    ends: Moment,
+    at: Moment,
+) -> [u8; 20]
+    ensures { result ≡ sha1 (text_of digest.now (Entry.Settled id mech names.now ends at)) }
+{
+    let ends = ends.total();
+    let at = at.total();
+    hashed(
+        digest,
+        &[settled_tag(mech)],
+        &id.to_be_bytes(),
+        &at.to_be_bytes(),
+        &ends.to_be_bytes(),
+        names,
+    )
+}
+
+/// The digest of a digest and the entry of a context that ended.
+#[tactic(auto, unfolding(crate::specs::Chains::text_of))]
+fn chained_end(digest: &[u8; 20], id: u64, cause: &EndCause) -> [u8; 20]
+    ensures { result ≡ sha1 (text_of digest.now (Entry.Ended id cause.now)) }
+{
+    let id = id.to_be_bytes();
+    match cause {
+        EndCause::Destroyed { seq } => { hashed(digest, &[6], &id, &seq.to_be_bytes(), &[], &[]) }
+        EndCause::Refused => hashed(digest, &[7], &id, &[], &[], &[]),
+        EndCause::Lapsed => hashed(digest, &[8], &id, &[], &[], &[]),
+    }
+}
+
 /// The digest of a digest and an entry.
 #[tactic(auto, unfolding(crate::specs::Chains::text_of))]
 pub(crate) fn chained(digest: &[u8; 20], entry: &Entry) -> [u8; 20]
     ensures { result ≡ sha1 (text_of digest.now entry.now) }
 {
     match entry {
-        Entry::Opened { id, at } => {
-            let at = at.total();
-            hashed(digest, &[0], &id.to_be_bytes(), &at.to_be_bytes(), &[], &[])
-        }
-        Entry::Auth { id, mark, at } => {
-            let stamp = mark.at.total();
-            let at = at.total();
-            hashed(
-                digest,
-                &[1],
-                &id.to_be_bytes(),
-                &at.to_be_bytes(),
-                &stamp.to_be_bytes(),
-                &mark.who,
-            )
-        }
-        Entry::Went { id, at } => {
-            let at = at.total();
-            hashed(digest, &[2], &id.to_be_bytes(), &at.to_be_bytes(), &[], &[])
-        }
+        Entry::Opened { id, at } => chained_at(digest, 0, *id, *at),
+        Entry::Auth { id, mark, at } => chained_auth(digest, *id, mark, *at),
+        Entry::Went { id, at } => chained_at(digest, 2, *id, *at),
         Entry::Settled {
             id,
             mech,
             names,
             ends,
             at,
-        } => {
-            let tag = settled_tag(*mech);
-            let ends = ends.total();
-            let at = at.total();
-            hashed(
-                digest,
-                &[tag],
-                &id.to_be_bytes(),
-                &at.to_be_bytes(),
-                &ends.to_be_bytes(),
-                names,
-            )
-        }
+        } => chained_settled(digest, *id, *mech, names, *ends, *at),
         Entry::Call {
             id,
             seq,
@@ -97,24 +140,6 @@ pub(crate) fn chained(digest: &[u8; 20], entry: &Entry) -> [u8; 20]
             &procedure.to_be_bytes(),
             args,
         ),
-        Entry::Ended {
-            id,
-            cause: EndCause::Destroyed { seq },
-        } => hashed(
-            digest,
-            &[6],
-            &id.to_be_bytes(),
-            &seq.to_be_bytes(),
-            &[],
-            &[],
-        ),
-        Entry::Ended {
-            id,
-            cause: EndCause::Refused,
-        } => hashed(digest, &[7], &id.to_be_bytes(), &[], &[], &[]),
-        Entry::Ended {
-            id,
-            cause: EndCause::Lapsed,
-        } => hashed(digest, &[8], &id.to_be_bytes(), &[], &[], &[]),
+        Entry::Ended { id, cause } => chained_end(digest, *id, cause),
     }
 }
