@@ -1,2 +1,4 @@
+mod Giving
+mod Leaving
 mod Queueing
 mod Waiting

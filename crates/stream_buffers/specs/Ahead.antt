@@ -1,5 +1,5 @@
 -- Octets of a link that were read before they were asked for.
-use Rattle.std.specs.Prelude.{◌≡◌, ℕ, ◌-◌, List, [], ◌++◌, take, drop, Option, Some, None}
+use Rattle.std.specs.Prelude.{◌≡◌, ℕ, ◌-◌, List, [], ◌++◌, length, take, drop, Option, Some, None}
 use Rattle.sec_base.specs.Link.{Wire}
 use Rattle.stream_buffers.specs.declared.ahead.Ahead.{Ahead}
 
@@ -17,3 +17,7 @@ waiting_in None = []
 abbrev pub Gives : Wire → Wire → List ℕ → List ℕ → List ℕ → Type 0
 Gives old new before after octets = (given : List ℕ) → given ++ before ≡ old.taken
     → (given ++ octets) ++ after ≡ new.taken
+
+-- these octets are the last of others, in order
+abbrev pub AreLast : List ℕ → List ℕ → Type 0
+AreLast octets whole = drop (length whole - length octets) whole ≡ octets

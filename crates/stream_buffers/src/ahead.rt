@@ -26,6 +26,7 @@ pub(crate) fn read_from<L: Link>(link: &mut L, buf: &mut [u8]) -> Result<usize, 
     requires { L.closed link.old ≡ false }
     ensures count { IfOk result (λ count. count ≤ length buf.old) }
     ensures told { Reads (L.tells link.old) (L.wire link.old) (L.wire link.new) result buf.new }
+    ensures untaken { OnErr result ((L.wire link.new).taken ≡ (L.wire link.old).taken) }
     ensures written { (L.wire link.new).written ≡ (L.wire link.old).written }
     ensures unclosed { L.closed link.new ≡ false }
     ensures fault { OnErr result (Rose (L.faults link.old) (L.faults link.new)) }
@@ -82,6 +83,7 @@ impl Ahead {
         ensures none { OnErr result (waiting self.new ≡ []) }
         ensures filled { OnOk result ((L.wire link.new).taken
             ≡ (L.wire link.old).taken ++ waiting self.new) }
+        ensures untaken { OnErr result ((L.wire link.new).taken ≡ (L.wire link.old).taken) }
         ensures written { (L.wire link.new).written ≡ (L.wire link.old).written }
         ensures fault { OnErr result (Rose (L.faults link.old) (L.faults link.new)) }
         ensures steady { OnOk result (L.faults link.new ≡ L.faults link.old) }

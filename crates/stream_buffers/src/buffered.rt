@@ -5,7 +5,7 @@ ghost use Rattle.std.specs.Prelude.{IfOk, OnOk, OnErr};
 ghost use Rattle.sec_base.specs.Answers.{Rose};
 ghost use Rattle.sec_base.specs.Link.{Reads, Writes};
 ghost use Rattle.sec_base.specs.Streams.{Sends};
-ghost use Rattle.stream_buffers.specs.Ahead.{waiting, waiting_in, Gives};
+ghost use Rattle.stream_buffers.specs.Ahead.{waiting, waiting_in, AreLast, Gives};
 ghost use Rattle.stream_buffers.specs.Behind.{held, unwritten, Queues, LetGo};
 
 use crate::ahead::{Ahead, ROOM, read_from};
@@ -28,6 +28,9 @@ pub struct Buffered<L: Link> {
     written: Trail,
     ghost unclosed: { may_wait ≡ true → L.closed link ≡ false },
     ghost idle: { may_wait ≡ false → held behind ≡ [] },
+    // until it is closed: what it gave and what waits are the last octets that the link below took
+    ghost in_order: { L.closed link ≡ false
+        → AreLast (taken.octets ++ waiting_in ahead) (L.wire link).taken },
 }
 
 /// Gives the octets that wait, and reads ahead before where none do.
@@ -36,6 +39,8 @@ fn read_by<L: Link>(ahead: &mut Ahead, link: &mut L, buf: &mut [u8]) -> Result<u
     ensures count { IfOk result (λ count. count ≤ length buf.old) }
     ensures given { IfOk result (λ count. Gives (L.wire link.old) (L.wire link.new)
         (waiting ahead.old) (waiting ahead.new) (take count buf.new)) }
+    ensures kept { OnErr result (waiting ahead.new ≡ waiting ahead.old) }
+    ensures untaken { OnErr result ((L.wire link.new).taken ≡ (L.wire link.old).taken) }
     ensures unclosed { L.closed link.new ≡ false }
     ensures written { (L.wire link.new).written ≡ (L.wire link.old).written }
     ensures fault { OnErr result (Rose (L.faults link.old) (L.faults link.new)) }
@@ -51,6 +56,31 @@ fn read_by<L: Link>(ahead: &mut Ahead, link: &mut L, buf: &mut [u8]) -> Result<u
     Ok(ahead.move_to(buf))
 }
 
+/// Gives the next octets, those that were read ahead first, and writes none. Where many are wanted and none wait, or where none are kept, they
+/// are read to where they are wanted.
+fn give<L: Link>(
+    ahead: &mut Option<Ahead>,
+    link: &mut L,
+    buf: &mut [u8],
+) -> Result<usize, LinkFault>
+    requires { L.closed link.old ≡ false }
+    ensures count { IfOk result (λ count. count ≤ length buf.old) }
+    ensures given { IfOk result (λ count. Gives (L.wire link.old) (L.wire link.new)
+        (waiting_in ahead.old) (waiting_in ahead.new) (take count buf.new)) }
+    ensures kept { OnErr result (waiting_in ahead.new ≡ waiting_in ahead.old) }
+    ensures untaken { OnErr result ((L.wire link.new).taken ≡ (L.wire link.old).taken) }
+    ensures written { (L.wire link.new).written ≡ (L.wire link.old).written }
+    ensures unclosed { L.closed link.new ≡ false }
+    ensures fault { OnErr result (Rose (L.faults link.old) (L.faults link.new)) }
+    ensures steady { OnOk result (L.faults link.new ≡ L.faults link.old) }
+    ensures faults { L.faults link.old ≤ L.faults link.new }
+{
+    match ahead {
+        Some(ahead) if buf.len() < ROOM || !ahead.is_empty() => read_by(ahead, link, buf),
+        _ => read_from(link, buf),
+    }
+}
+
 /// Takes octets that are to be written. They wait, behind those that wait already. If there is no room for both, the first of them fill
 /// the room, and all that wait is written, so that no octets go out alone; octets behind which none wait, and for which there is no room,
 /// are written at once.
@@ -61,6 +91,7 @@ fn write_by<L: Link>(behind: &mut Behind, link: &mut L, buf: &[u8]) -> Result<us
     ensures in_order { IfOk result
         (λ count. Queues (L.wire link.old) (L.wire link.new) (unwritten behind.old)
         (unwritten behind.new) (take count buf.now)) }
+    ensures untaken { (L.wire link.new).taken ≡ (L.wire link.old).taken }
     ensures unclosed { L.closed link.new ≡ false }
     ensures fault { OnErr result (Rose (L.faults link.old) (L.faults link.new)) }
     ensures steady { OnOk result (L.faults link.new ≡ L.faults link.old) }
@@ -181,29 +212,7 @@ impl<L: Link> Buffered<L> {
         Ok(())
     }
 
-    /// Gives the next octets, those that were read ahead first, and writes none.
-    fn give(&mut self, buf: &mut [u8]) -> Result<usize, LinkFault>
-        requires { L.closed self.old.link ≡ false }
-        ensures count { IfOk result (λ count. count ≤ length buf.old) }
-        ensures given { IfOk result (λ count. Gives (L.wire self.old.link) (L.wire self.new.link)
-            (waiting_in self.old.ahead) (waiting_in self.new.ahead) (take count buf.new)) }
-        ensures behind { held self.new.behind ≡ held self.old.behind }
-        ensures trails { (self.new.taken ≡ self.old.taken) × (self.new.written ≡ self.old.written) }
-        ensures written { (L.wire self.new.link).written ≡ (L.wire self.old.link).written }
-        ensures unclosed { L.closed self.new.link ≡ false }
-        ensures fault { OnErr result (Rose (L.faults self.old.link) (L.faults self.new.link)) }
-        ensures steady { OnOk result (L.faults self.new.link ≡ L.faults self.old.link) }
-        ensures faults { L.faults self.old.link ≤ L.faults self.new.link }
-    {
-        match &mut self.ahead {
-            Some(ahead) if buf.len() < ROOM || !ahead.is_empty() => {
-                read_by(ahead, &mut self.link, buf)
-            }
-            _ => read_from(&mut self.link, buf),
-        }
-    }
-
-    /// Gives the next octets. Before the link below is asked, what waits to be written is written to it.
+    /// Gives the next octets, and notes them. Before the link below is asked, what waits to be written is written to it.
     fn fetch(&mut self, buf: &mut [u8]) -> Result<usize, LinkFault>
         requires { L.closed self.old.link ≡ false }
         ensures count { IfOk result (λ count. count ≤ length buf.old) }
@@ -213,14 +222,19 @@ impl<L: Link> Buffered<L> {
         ensures written { waiting_in self.old.ahead ≡ []
             → OnOk result ((L.wire self.new.link).written
             ≡ (L.wire self.old.link).written ++ held self.old.behind) }
-        ensures trails { (self.new.taken ≡ self.old.taken) × (self.new.written ≡ self.old.written) }
+        ensures noted { IfOk result (λ count. self.new.taken.octets
+            ≡ self.old.taken.octets ++ take count buf.new) }
+        ensures unnoted { OnErr result (self.new.taken ≡ self.old.taken) }
+        ensures writes { self.new.written ≡ self.old.written }
         ensures unclosed { L.closed self.new.link ≡ false }
         ensures fault { OnErr result (Rose (L.faults self.old.link) (L.faults self.new.link)) }
         ensures steady { OnOk result (L.faults self.new.link ≡ L.faults self.old.link) }
         ensures faults { L.faults self.old.link ≤ L.faults self.new.link }
     {
         self.drain()?;
-        self.give(buf)
+        let count = give(&mut self.ahead, &mut self.link, buf)?;
+        self.taken = self.taken.then(&buf[..count]);
+        Ok(count)
     }
 
     /// Takes octets that are to be written, as many first ones as it answers.
@@ -289,9 +303,7 @@ impl<L: Link> Link for Buffered<L> {
             → OnOk result ((L.wire (link_below self.new)).written
             ≡ (L.wire (link_below self.old)).written ++ written_behind self.old) }
     {
-        let count = self.fetch(buf)?;
-        self.taken = self.taken.then(&buf[..count]);
-        Ok(count)
+        self.fetch(buf)
     }
 
     fn write(&mut self, buf: &[u8]) -> Result<usize, LinkFault>
