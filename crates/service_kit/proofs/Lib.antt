@@ -1,4 +1,3 @@
 mod FreshDesks
-mod Sends
 pub mod Acts
 pub mod NoKeys

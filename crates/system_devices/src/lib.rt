@@ -7,6 +7,7 @@ mod control;
 mod dialed_link;
 mod file_disk;
 mod file_shelf;
+mod moments;
 mod patient_link;
 mod rand_draw;
 mod setback;

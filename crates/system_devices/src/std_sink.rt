@@ -1,9 +1,9 @@
 //! Standard output and standard error as sinks.
 
-ghost use Rattle.std.specs.Prelude.{◌≡◌, ◌<◌, ◌≤◌, length, IfSome};
+ghost use Rattle.std.specs.Prelude.{◌≡◌, ◌<◌, ◌≤◌, [], length, IfSome, IsTrue};
 
 use crate::again::write_on;
-use sec_base::{Sink, SinkFault};
+use sec_base::{Sink, SinkFault, Trail};
 use std::io::{Stderr, Stdout};
 
 /// The two streams.
@@ -29,50 +29,60 @@ impl Stream {
     }
 }
 
-/// Standard output or standard error. A write that a signal, a stop or a tracer broke off is made again. It tells nothing of what was
-/// written.
+/// Standard output or standard error. A write that a signal, a stop or a tracer broke off is made again. What was written is what
+/// the stream took.
 #[derive(Drop)]
 pub struct StdSink {
     stream: Stream,
     faults: u64,
+    written: Trail,
 }
 
 impl StdSink {
     /// Standard output.
     pub fn output(stream: Stdout) -> StdSink
-        ensures { ⟦<StdSink as Sink>⟧.faults result ≡ 0 }
+        ensures faults { ⟦<StdSink as Sink>⟧.faults result ≡ 0 }
+        ensures written { ⟦<StdSink as Sink>⟧.written result ≡ [] }
+        ensures tells { IsTrue (⟦<StdSink as Sink>⟧.tells result) }
     {
         StdSink {
             stream: Stream::Output(stream),
             faults: 0,
+            written: Trail::new(),
         }
     }
 
     /// Standard error.
     pub fn error(stream: Stderr) -> StdSink
-        ensures { ⟦<StdSink as Sink>⟧.faults result ≡ 0 }
+        ensures faults { ⟦<StdSink as Sink>⟧.faults result ≡ 0 }
+        ensures written { ⟦<StdSink as Sink>⟧.written result ≡ [] }
+        ensures tells { IsTrue (⟦<StdSink as Sink>⟧.tells result) }
     {
         StdSink {
             stream: Stream::Error(stream),
             faults: 0,
+            written: Trail::new(),
         }
     }
 }
 
 impl Sink for StdSink {
-    ghost use Rattle.std.specs.Prelude.{false, []};
+    ghost use Rattle.std.specs.Prelude.{true};
 
     ghost faults = { λ s. s.faults };
 
-    ghost tells = { λ _. false };
+    ghost tells = { λ _. true };
 
-    ghost written = { λ _. [] };
+    ghost written = { λ s. s.written.octets };
 
     fn write(&mut self, bytes: &[u8]) -> Result<(), SinkFault> {
         let mut at = 0;
         while at < bytes.len() {
             match self.stream.take(&bytes[at..]) {
-                Some(count) => at += count,
+                Some(count) => {
+                    self.written = self.written.then(&bytes[at..at + count]);
+                    at += count;
+                }
                 None => {
                     self.faults = self.faults.saturating_add(1);
                     return Err(SinkFault);

@@ -3,6 +3,7 @@
 ghost use Rattle.std.specs.Prelude.{◌≡◌, ◌++◌, ◌∷◌, [], IsTrue};
 ghost use Rattle.system_devices.specs.Devices.{last_given};
 
+use crate::moments::Moments;
 use sec_base::{Clock, Moment};
 use std::rt::Clock as SystemTimeSource;
 use std::time::{Instant, SystemTime, UNIX_EPOCH};
@@ -25,7 +26,7 @@ struct Anchor {
 
 /// The system's clock. Where it can't be read, or is out of range, it gives the last moment that it gave, at first the start of 1970.
 /// Where it is set ahead by more than a day, it gives the moment that it would be else, until it has stayed ahead for ten minutes: the
-/// greatest moment that was seen decides what is stale. It tells nothing of its moments.
+/// greatest moment that was seen decides what is stale. It tells the moments that it gave.
 #[derive(Drop)]
 pub struct SystemClock<R: SystemTimeSource + Drop> {
     rt: R,
@@ -33,23 +34,29 @@ pub struct SystemClock<R: SystemTimeSource + Drop> {
     anchor: Option<Anchor>,
     /// Since when it has been ahead.
     ahead: Option<Instant>,
+    given: Moments,
 }
 
 impl<R: SystemTimeSource + Drop> SystemClock<R> {
     /// The clock that gave no moment yet.
     pub fn new(rt: R) -> SystemClock<R>
-        ensures { last_given result ≡ 0 }
+        ensures last { last_given result ≡ 0 }
+        ensures none { ⟦<SystemClock<R> as Clock>⟧.given result ≡ [] }
+        ensures tells { IsTrue (⟦<SystemClock<R> as Clock>⟧.tells result) }
     {
         SystemClock {
             rt,
             last: Moment::start(),
             anchor: None,
             ahead: None,
+            given: Moments::new(),
         }
     }
 
     /// The moment to give for what the system says.
-    fn believed(&mut self, reading: Moment) -> Moment {
+    fn believed(&mut self, reading: Moment) -> Moment
+        ensures { self.new.given ≡ self.old.given }
+    {
         if is_near(&self.anchor, reading) {
             self.ahead = None;
             return reading;
@@ -61,7 +68,9 @@ impl<R: SystemTimeSource + Drop> SystemClock<R> {
     }
 
     /// The same, by the clock that nobody sets.
-    fn judged(&mut self, reading: Moment, now: Instant) -> Moment {
+    fn judged(&mut self, reading: Moment, now: Instant) -> Moment
+        ensures { self.new.given ≡ self.old.given }
+    {
         if let Some(anchor) = self.anchor {
             let due = due(&anchor, now);
             if reading > due.later(DAY) && !has_stayed(&self.ahead, now) {
@@ -108,11 +117,11 @@ fn reading<R: SystemTimeSource>(rt: &R) -> Option<Moment> {
 }
 
 impl<R: SystemTimeSource + Drop> Clock for SystemClock<R> {
-    ghost use Rattle.std.specs.Prelude.{false};
+    ghost use Rattle.std.specs.Prelude.{true};
 
-    ghost tells = { λ _. false };
+    ghost tells = { λ _. true };
 
-    ghost given = { λ _. [] };
+    ghost given = { λ clock. clock.given.moments };
 
     fn now(&mut self) -> Moment
         ensures kept { IsTrue (⟦<SystemClock<R> as Clock>⟧.tells self.new)
@@ -125,6 +134,7 @@ impl<R: SystemTimeSource + Drop> Clock for SystemClock<R> {
         if let Some(moment) = reading(&self.rt) {
             self.last = self.believed(moment);
         }
+        self.given = self.given.then(&self.last);
         self.last
     }
 }

@@ -1,5 +1,5 @@
 use denote.Param.Send.{sendable}
-use Rattle.service_kit.proofs.Sends.{patient-send, buffered-send}
+use Rattle.system_devices.proofs.Sends.{patient-send, buffered-send}
 use Rattle.service_kit.proofs.listening.over_listener.Goals as goal
 
 pub run-requires-send-P-Link : goal.run-requires-send-P-Link

@@ -1,5 +1,5 @@
 use denote.Param.Send.{sendable}
-use Rattle.service_kit.proofs.Sends.{patient-send, buffered-send}
+use Rattle.system_devices.proofs.Sends.{patient-send, buffered-send}
 use Rattle.service_kit.proofs.listening.fn.run_controlled.join+arg3.Goals as goal
 
 pub run-ran-requires-send-P-Link : goal.run-ran-requires-send-P-Link

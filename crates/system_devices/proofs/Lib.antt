@@ -1,0 +1,3 @@
+pub mod Sends
+mod Walks
+mod Written

@@ -1,0 +1,25 @@
+-- Moments without bytes: any list of them is made of nothing. Assumes `Logic`.
+use Rattle.std.proofs.Common.{ℕ, List, [], ◌∷◌, refl}
+use seplogic.Ra.Ura.{Ura}
+use mir.Val.{Val, vstruct, vnil}
+use types.Logic.{Logic}
+use types.Kit.{Goal, Step, step, Item, ‵, ◌$◌, fjoin}
+use denote.Steps.{nothing, owned}
+use denote.Struct.Struct.{Shape, Struct, Struct-Makes}
+use Rattle.system_devices.specs.contracts.moments.Moments.{the_row as Row}
+
+-- the machine's value of a struct without bytes
+abbrev pub no_bytes : Val
+no_bytes = vstruct vnil
+
+abbrev no_fields : Shape
+no_fields = record { name = []; args = []; types = []; fields = [] }
+
+-- moments as a value of `Moments`
+abbrev pub moments : List ℕ → Row.Denot
+moments given = record { moments = given }
+
+-- it is owned, whatever its moments are
+pub leaves : {M : Type 1} {𝓤 : Ura M} {𝓛 : Logic 𝓤} {K : Type 0} {Γ : List (Item 𝓤)} {G : Goal 𝓤 𝓛.H} → K → (given : List ℕ) → Step K 𝓛 (‵ (Row.own_val (moments given) (no_bytes ∷ [])) ∷ Γ) G Γ G
+leaves {𝓛 = 𝓛} t given = step (λ after.
+    nothing t $ owned t (Struct no_fields) _ (Struct-Makes 𝓛 no_fields tt) tt (no_bytes ∷ []) (tt, (refl, tt)) $ fjoin t $ after)
