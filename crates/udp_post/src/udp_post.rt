@@ -1,8 +1,9 @@
 //! A UDP socket.
 
-ghost use Rattle.std.specs.Prelude.{◌≡◌, length};
+ghost use Rattle.std.specs.Prelude.{◌≡◌, [], IsTrue, length};
 ghost use Rattle.udp_post.specs.Received.{FitsRoom};
 
+use crate::noted::Noted;
 use datagram_post::{Post, PostFault};
 use std::io::ErrorKind;
 use std::net::{Net, SocketAddr, UdpSocket};
@@ -22,12 +23,14 @@ enum Peer {
 
 /// A UDP socket of a server, or of a client. A `recv` waits for one second, and one that a signal, a stop or a tracer broke off is made
 /// again. A socket that couldn't be bound answers a fault at each call, and a client's does where its server's port is closed. A server's
-/// datagram that the system doesn't take for its receiver is lost, as any may be on its way. It tells nothing of its datagrams.
+/// datagram that the system doesn't take for its receiver is lost, as any may be on its way. What was heard is what its `recv` answered, and what was sent is what its `send` took.
 #[derive(Drop)]
 pub struct UdpPost {
     socket: Option<UdpSocket>,
     peer: Peer,
     faults: u64,
+    heard: Noted,
+    sent: Noted,
 }
 
 /// The socket with its wait, None where that can't be set.
@@ -75,7 +78,11 @@ fn receive(socket: &UdpSocket, buf: &mut [u8]) -> Received
 
 impl UdpPost {
     /// A server's, bound to `address`, a host and a port with a colon between them.
-    pub fn serve<R: Net>(net: &R, address: &str) -> UdpPost {
+    pub fn serve<R: Net>(net: &R, address: &str) -> UdpPost
+        ensures heard { ⟦<UdpPost as Post>⟧.heard result ≡ [] }
+        ensures sent { ⟦<UdpPost as Post>⟧.sent result ≡ [] }
+        ensures tells { IsTrue (⟦<UdpPost as Post>⟧.tells result) }
+    {
         let socket = match UdpSocket::bind(net, address) {
             Ok(socket) => patient(socket),
             Err(_) => None,
@@ -84,11 +91,17 @@ impl UdpPost {
             socket,
             peer: Peer::Sender(None),
             faults: 0,
+            heard: Noted::new(),
+            sent: Noted::new(),
         }
     }
 
     /// A client's, whose server is at `address`, a host and a port with a colon between them.
-    pub fn ask<R: Net>(net: &R, address: &str) -> UdpPost {
+    pub fn ask<R: Net>(net: &R, address: &str) -> UdpPost
+        ensures heard { ⟦<UdpPost as Post>⟧.heard result ≡ [] }
+        ensures sent { ⟦<UdpPost as Post>⟧.sent result ≡ [] }
+        ensures tells { IsTrue (⟦<UdpPost as Post>⟧.tells result) }
+    {
         let socket = match connected(net, "0.0.0.0:0", address) {
             Some(socket) => Some(socket),
             None => connected(net, "[::]:0", address),
@@ -97,6 +110,8 @@ impl UdpPost {
             socket,
             peer: Peer::Server,
             faults: 0,
+            heard: Noted::new(),
+            sent: Noted::new(),
         }
     }
 
@@ -113,15 +128,16 @@ impl UdpPost {
 }
 
 impl Post for UdpPost {
-    ghost use Rattle.std.specs.Prelude.{false, []};
+    ghost use Rattle.std.specs.Prelude.{true};
+    ghost use Rattle.udp_post.specs.Noted.{datagrams_in};
 
     ghost faults = { λ p. p.faults };
 
-    ghost tells = { λ _. false };
+    ghost tells = { λ _. true };
 
-    ghost heard = { λ _. [] };
+    ghost heard = { λ p. p.heard.datagrams };
 
-    ghost sent = { λ _. [] };
+    ghost sent = { λ p. datagrams_in p.sent.datagrams };
 
     fn recv(&mut self, buf: &mut [u8]) -> Result<Option<usize>, PostFault> {
         let received = match &self.socket {
@@ -133,9 +149,13 @@ impl Post for UdpPost {
                 if let Peer::Sender(_) = self.peer {
                     self.peer = Peer::Sender(Some(sender));
                 }
+                self.heard = self.heard.then(&buf[..count]);
                 Ok(Some(count))
             }
-            Received::Nothing => Ok(None),
+            Received::Nothing => {
+                self.heard = self.heard.then_none();
+                Ok(None)
+            }
             Received::Fault => {
                 self.faults = self.faults.saturating_add(1);
                 Err(PostFault)
@@ -154,6 +174,7 @@ impl Post for UdpPost {
             (None, _) => false,
         };
         if sent {
+            self.sent = self.sent.then(bytes);
             Ok(())
         } else {
             self.faults = self.faults.saturating_add(1);
