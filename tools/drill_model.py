@@ -2,7 +2,7 @@
 """What a drill prints, by docs/FORMATS.md ("Drills") alone: no part of the programs is asked.
 
 usage: tools/drill_model.py SEED CALLS     the lines of that drill
-       tools/drill_model.py                compares each drill of crates/gss_tables/data/drills.txt that ends well
+       tools/drill_model.py                compares each drill of crates/world_tables/data/drills.txt that ends well
 
 The service's results are those of docs/PROTOCOL.md. The status is 0 only where all drills of the table are so."""
 
@@ -11,7 +11,7 @@ import os
 import re
 import sys
 
-TABLE = os.path.join(os.path.dirname(os.path.abspath(__file__)), "..", "crates", "gss_tables", "data", "drills.txt")
+TABLE = os.path.join(os.path.dirname(os.path.abspath(__file__)), "..", "crates", "world_tables", "data", "drills.txt")
 NULL, ECHO, WHOAMI, POST, COUNT = range(5)
 SESSION = 1000
 # By mechanism, Kerberos first: the caller's name, and the records of a creation and of the end.

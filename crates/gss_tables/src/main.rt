@@ -1,18 +1,15 @@
-//! Compares tables of outside values of both ends, the book and the world with what the public calls answer, and says of each table how
-//! many lines agree, or which doesn't.
+//! Compares tables of outside values of both ends and of the book with what the public calls answer, and says of each table how many
+//! lines agree, or which doesn't.
 #![tactic(auto)]
 
 mod asking;
-mod begun;
 mod between;
 mod books;
 mod connections;
 mod cores;
 mod datagrams;
-mod drills;
 mod endings;
 mod entries;
-mod exchanges;
 mod links;
 mod loops;
 mod made_files;
@@ -26,7 +23,6 @@ mod servers;
 mod sessions;
 mod table;
 mod talks;
-mod worlds;
 
 use std::sync::Wait;
 use std::thread::Threads;
@@ -62,9 +58,6 @@ const TABLES: [Table; 24] = [
     Table::Datagrams,
 ];
 
-/// Those of the world, which has a setting of its own, and of drills, which have none.
-const WORLD_TABLES: [Table; 3] = [Table::Worlds, Table::Exchanges, Table::Drills];
-
 /// Says of a table how many lines agree, or which doesn't. The host is the runtime once more, which makes threads and waits for them.
 fn compare<R: Threads + Wait + Sync>(
     rt: &HostRuntime,
@@ -94,36 +87,18 @@ fn compare_all<R: Threads + Wait + Sync>(
     Ok(())
 }
 
-/// The files that rows name, whose octets stand in this one.
-fn read_files(rt: &HostRuntime, octets: &str) -> io::Result<Files> {
+/// The files that rows name.
+fn read_files(rt: &HostRuntime) -> io::Result<Files> {
     let shelf = fs::read_to_string(rt, "shelf.txt")?;
-    let octets = fs::read_to_string(rt, octets)?;
+    let octets = fs::read_to_string(rt, "octets.txt")?;
     Ok(Files { shelf, octets })
 }
 
-/// What tables rest on by this file, None where it isn't in its form.
-fn read_setting(rt: &HostRuntime, file: &str) -> io::Result<Option<Setting>> {
-    let text = fs::read_to_string(rt, file)?;
-    Ok(Setting::read(rt.alloc(), text.as_str()))
-}
-
-/// Says the same of each of these tables, by the files of their setting and of the octets that their rows name.
-fn compare_over<R: Threads + Wait + Sync>(
-    rt: &HostRuntime,
-    host: &R,
-    setting: &str,
-    octets: &str,
-    tables: &[Table],
-) -> io::Result<()> {
-    let files = read_files(rt, octets)?;
-    match read_setting(rt, setting)? {
-        Some(setting) => compare_all(rt, host, &setting, &files, tables),
-        None => println!(rt; "{setting}: not in its form"),
-    }
-}
-
 fn main(rt: HostRuntime) -> io::Result<()> {
-    compare_over(&rt, &rt, "setting.txt", "octets.txt", &TABLES)?;
-    let (setting, octets) = ("world_setting.txt", "world_octets.txt");
-    compare_over(&rt, &rt, setting, octets, &WORLD_TABLES)
+    let files = read_files(&rt)?;
+    let text = fs::read_to_string(&rt, "setting.txt")?;
+    match Setting::read(rt.alloc(), text.as_str()) {
+        Some(setting) => compare_all(&rt, &rt, &setting, &files, &TABLES),
+        None => println!(rt; "setting.txt: not in its form"),
+    }
 }

@@ -4,8 +4,8 @@ ghost use Rattle.std.specs.Prelude.{map};
 ghost use Rattle.init_ends.specs.Arming.{AreStandard};
 
 use crate::{
-    books, connections, cores, datagrams, drills, exchanges, links, loops, made_files, meetings,
-    records, rules, runs, seats, servers, sessions, talks, worlds,
+    books, connections, cores, datagrams, links, loops, made_files, meetings, records, rules, runs,
+    seats, servers, sessions, talks,
 };
 use init_ends::standard_mechs;
 use mech_objects::{Mech, make_mechs};
@@ -42,9 +42,6 @@ pub enum Table {
     MadeFiles,
     ReadBack,
     Datagrams,
-    Worlds,
-    Exchanges,
-    Drills,
 }
 
 impl Table {
@@ -73,9 +70,6 @@ impl Table {
             Table::MadeFiles => "made_files.txt",
             Table::ReadBack => "read_back.txt",
             Table::Datagrams => "datagrams.txt",
-            Table::Worlds => "worlds.txt",
-            Table::Exchanges => "exchanges.txt",
-            Table::Drills => "drills.txt",
         }
     }
 
@@ -91,7 +85,7 @@ impl Table {
     fn is_named(self) -> bool {
         match self {
             Table::Records | Table::Rules | Table::Connections | Table::Turns => false,
-            Table::Sessions | Table::Runs | Table::Drills => false,
+            Table::Sessions | Table::Runs => false,
             _ => true,
         }
     }
@@ -174,9 +168,6 @@ impl<R: Wait> Rows for Set<'_, R> {
             Table::MadeFiles => made_files::make(cells, said),
             Table::ReadBack => made_files::read_back(cells, said),
             Table::Datagrams => datagrams::answer(setting, files, cells, said),
-            Table::Worlds => worlds::answer(setting, files.octets.as_str(), cells, said),
-            Table::Exchanges => exchanges::answer(setting, cells, said),
-            Table::Drills => drills::answer(cells, said),
         }
     }
 }

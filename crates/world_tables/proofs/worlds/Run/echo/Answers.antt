@@ -1,7 +1,7 @@
 use Rattle.std.proofs.Common.{refl}
-use Rattle.posts_program.specs.Opaque.{opaque_alone}
+use Rattle.rpc_msgs.specs.Opaque.{opaque_alone}
 use Rattle.rpc_msgs.specs.Xdr.{octets_at, word_at, zeros_in, opaque_at, end_at}
-use Rattle.gss_tables.proofs.worlds.Run.echo.Goals as goal
+use Rattle.world_tables.proofs.worlds.Run.echo.Goals as goal
 
 pub call-requires-clause-own : goal.call-requires-clause-own
 unfolding opaque_alone octets_at word_at zeros_in opaque_at end_at

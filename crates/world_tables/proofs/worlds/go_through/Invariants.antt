@@ -1,5 +1,5 @@
 use Rattle.world_runs.specs.Worlds.{world_means, IsWorld}
-use Rattle.gss_tables.proofs.worlds.go_through.Given as goal
+use Rattle.world_tables.proofs.worlds.go_through.Given as goal
 
 abbrev pub invariant-loop-part : goal.invariant-loop-part
 invariant-loop-part g l =
