@@ -1,5 +1,5 @@
 -- What is kept of a context has the outcomes of its acting calls.
-use Rattle.std.proofs.Common.{◌≡◌, ◌≢◌, ℕ, zero, suc, ◌-◌, Bool, true, false, ◌==◌, List, [], ◌∷◌, ◌++◌, length, drop, replicate, Option, None, Some, Result, Ok, Err, ap, sym, ◌∙◌, refl, inl, inr, subst}
+use Rattle.std.proofs.Common.{◌≡◌, ℕ, zero, suc, ◌-◌, Bool, true, false, ◌==◌, List, [], ◌∷◌, ◌++◌, length, drop, replicate, Option, None, Some, Result, Ok, Err, ap, sym, ◌∙◌, refl, inl, inr, subst}
 use Rattle.std.specs.List.{AllByRecursion}
 use Rattle.std.proofs.lemmas.Bool.{cases_eq, cases_Bool, eq-eqb, ne_eqb, eqb-true}
 use Rattle.again_calls.specs.declared.outcome.KeptOutcome.{KeptOutcome}
@@ -21,7 +21,7 @@ use Rattle.rpc_program.specs.Programs.{NONE}
 use Rattle.sha1.specs.Sha1.{sha1}
 use Rattle.accept_book.specs.RecordShown.{Asked, AskedStep, AskedLook, AskedAdmit, AskedEnd}
 use Rattle.gss_server.specs.Asking.{Asking}
-use Rattle.again_gate.specs.Again.{AgainOf, with_xid, AgainAnswers, placed, placed_all, Passes, AdmitsSame, AdmitsBy, Admits, Acts as ActsNew, is_told, told_with, act_as, ended_after, opened_gate}
+use Rattle.again_gate.specs.Again.{AgainOf, with_xid, AgainAnswers, placed, placed_all, AdmitsSame, AdmitsBy, Admits, Acts as ActsNew, is_told, told_with, act_as, ended_after, opened_gate}
 use Rattle.again_gate.specs.Turns.{Turned, Turning}
 use Rattle.again_laws.specs.Acting.{Acted, IsAsBefore, SuchAmong, IsAmong, HasOutcome, IsAnswered, AllAnswered, acting, is_acting}
 use Rattle.again_laws.specs.Sole.{IsSole}

@@ -18,7 +18,7 @@ use Rattle.accept_book.specs.RecordShown.{Asked, AskedStep, AskedLook, AskedAdmi
 use Rattle.gss_server.specs.Asking.{Asking}
 use Rattle.accept_core.specs.History.{standing, IsLive}
 use Rattle.accept_core.specs.Legal.{Legal}
-use Rattle.again_gate.specs.Again.{AgainOf, with_xid, AgainAnswers, placed, placed_all, Passes, AdmitsSame, AdmitsBy, Admits, Acts as ActsNew, is_told, told_with, act_as, ended_after, opened_gate}
+use Rattle.again_gate.specs.Again.{AgainOf, with_xid, AgainAnswers, placed, placed_all, AdmitsSame, AdmitsBy, Admits, Acts as ActsNew, is_told, told_with, act_as, ended_after, opened_gate}
 use Rattle.seq_window.specs.Marks.{is_in}
 use Rattle.gss_server.specs.Receipts.{of_call, of_end}
 use Rattle.gss_server.specs.Programs.{passed}
@@ -29,7 +29,7 @@ use Rattle.again_laws.specs.Acting.{is_acting, NoneAgain, acting, xids as xids_o
 use Rattle.again_laws.specs.Sole.{onto, IsCall, IsEnd, IsSole, Within}
 use Rattle.again_laws.proofs.Rows.{was_acting, acts, one-xid, xids-in, xids-all, xids-is}
 use Rattle.again_laws.proofs.Places.{count, keeps, AreWide, keeps-own, wide-changed, long-changed}
-use Rattle.again_laws.proofs.Acts.{newest-more, newest-map, Sound, sound-onto, whole-live, xids, Has, ByStanding, Inv, live-has, has-by, by-same, entry-more, entries-more}
+use Rattle.again_laws.proofs.Acts.{newest-more, newest-map, Sound, sound-onto, whole-live, xids, Has, ByStanding, Inv, live-has, has-by, by-same, entries-more}
 
 -- a transaction number that isn't kept
 pub not-kept : (xid : ℕ) (kept : List Act) → act_with xid kept ≡ None → is_in xid (xids kept) ≡ false

@@ -1,5 +1,5 @@
 -- A gate over another is seen as one over what the other has.
-use Rattle.std.proofs.Common.{◌≡◌, ℕ, Bool, true, false, ◌==◌, List, [], ◌∷◌, Option, None, Some, Result, ap, ◌∙◌, refl}
+use Rattle.std.proofs.Common.{ℕ, Bool, true, false, ◌==◌, List, [], ◌∷◌, Option, None, Some, Result, ap}
 use Rattle.again_calls.specs.declared.place.Act.{Act}
 use Rattle.again_calls.specs.Kept.{act_of}
 use Rattle.accept_core.specs.declared.answer.AdmitRefusal.{AdmitRefusal}
@@ -10,7 +10,7 @@ use Rattle.rpc_program.specs.Programs.{NONE}
 use Rattle.rpcsec_bodies.specs.declared.service.Service.{Service}
 use Rattle.sha1.specs.Sha1.{sha1}
 use Rattle.gss_server.specs.Asking.{Asking}
-use Rattle.again_gate.specs.Again.{AgainOf, with_xid, AgainAnswers, Passes, Acts, AdmitsSame, AdmitsBy, Admits, is_told}
+use Rattle.again_gate.specs.Again.{AgainOf, with_xid, AgainAnswers, Passes, AdmitsSame, AdmitsBy, Admits, is_told}
 use Rattle.again_gate.specs.Turns.{Turned, Turning}
 
 -- a gate over what the gate below has

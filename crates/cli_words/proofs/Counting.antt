@@ -1,6 +1,6 @@
 -- How many plain words there are, by which of the first six are there.
 use Rattle.std.specs.Borrow.{Bor}
-use Rattle.std.proofs.Common.{◌≡◌, ◌∙◌, sym, ap, Bool, ℕ, ◌≤◌, zero, suc, true, false, List, [], ◌∷◌, length, slice_get, Option, Some, None, is_some, refl, arith}
+use Rattle.std.proofs.Common.{◌≡◌, ◌∙◌, sym, ap, Bool, ℕ, ◌≤◌, zero, suc, List, [], ◌∷◌, length, slice_get, Option, Some, None, is_some, refl, arith}
 use Rattle.std.specs.Prelude.{if◌then◌else◌, option_map}
 
 -- no element behind the last

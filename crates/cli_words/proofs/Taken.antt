@@ -1,17 +1,17 @@
 -- A command of places and options takes the words that are in it, and finds what they say.
-use Rattle.std.proofs.Common.{◌≡◌, ◌∙◌, ◌&&◌, ◌+◌, ◌≤◌, suc, ℕ, Bool, true, false, List, [], ◌∷◌, ◌++◌, length, map, drop, slice_get, Option, Some, None, is_some, refl, sym, ap, subst, true≢false, fold, arith, codes}
+use Rattle.std.proofs.Common.{◌≡◌, ◌∙◌, ◌&&◌, ◌+◌, ◌≤◌, suc, ℕ, Bool, true, false, List, [], ◌∷◌, ◌++◌, length, map, drop, Some, None, refl, sym, ap, subst, true≢false, fold, arith, codes}
 use Rattle.std.specs.Str.{bytes_eq}
 use Rattle.std.specs.List.{list_all}
 use Rattle.std.specs.Prelude.{if◌then◌else◌}
 use Rattle.std.proofs.lemmas.Slice.Eq.{bytes_eq-Decides}
 use Rattle.clap.specs.Walk.{Held, Row, Rule, Walk, Names, walked, walk, walk_from, nothing_held, with_default, finished, settled, first_of, has_row, rows_after}
 use Rattle.clap.specs.Simple.{App, Shape, built, is_simple, matches_of, argument_words, names_of}
-use Rattle.clap.specs.Takes.{takes, built_takes, turn_passes, level_passes, walk_passes, default_passes, is_valid, settle_passes}
+use Rattle.clap.specs.Takes.{built_takes, turn_passes, level_passes, walk_passes, default_passes, is_valid, settle_passes}
 use Rattle.clap.proofs.TakesLemmas.{leaf_takes}
-use Rattle.cli_base.specs.Words.{is_dashed, is_one_of, are_words, value_of, first_word, plain_of, plain_from}
+use Rattle.cli_base.specs.Words.{is_dashed, is_one_of, are_words, plain_of, plain_from}
 use Rattle.cli_words.specs.Line.{IsLine, IsRead}
 use Rattle.cli_words.specs.Commands.{IsTaken}
-use Rattle.cli_words.proofs.Pairs.{Word, Pair, Each, places, placed, pairs_from, lookup, is_fresh, value-is, plain-is, are-apart, departs, plain-pairs, plain-plain, known-behind, places-plain, places-distinct}
+use Rattle.cli_words.proofs.Pairs.{Word, Pair, Each, places, pairs_from, lookup, is_fresh, value-is, plain-is, are-apart, departs, plain-pairs, plain-plain, known-behind, places-plain, places-distinct}
 use Rattle.cli_words.proofs.Walking.{row, held, stage, HasArgument, HasOption, HasPlace, HasPlaces, Walks, walks-on, settles, settling, plain-long, plain-short, plain-dashes, and-true}
 
 -- the places behind the address

@@ -14,7 +14,7 @@ use Rattle.clap.specs.declared.parser.matches.ValueSource.TheVariants.{CommandLi
 use Rattle.clap.proofs.WalkLemmas.{both}
 use Rattle.clap.proofs.SimpleLemmas.{is_false}
 use Rattle.cli_base.specs.Words.{is_dashed, is_one_of, are_words, plain_from}
-use Rattle.cli_words.proofs.Pairs.{Word, Pair, Each, Apart, Awaits, OptionHere, pairs_from, placed, is_fresh, same-word, option-here, known-behind, dashed-pairs, plain-pairs, dashed-plain, plain-plain, value-plain}
+use Rattle.cli_words.proofs.Pairs.{Word, Pair, Apart, Awaits, OptionHere, pairs_from, placed, is_fresh, same-word, option-here, known-behind, dashed-pairs, plain-pairs, dashed-plain, plain-plain, value-plain}
 
 -- an argument with one value, as building fills it in
 abbrev pub set_rule : Word → Option Word → Option ℕ → Rule

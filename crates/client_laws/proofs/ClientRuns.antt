@@ -1,5 +1,5 @@
 -- A run of the client that an honest server answers is complete.
-use Rattle.std.proofs.Common.{◌≡◌, ◌≢◌, ℕ, ◌+◌, ◌*◌, ◌≤◌, Bool, true, IsTrue, refl, ap, sym, subst, ◌∙◌, arith, List, ◌++◌, length, drop, replicate, Option, Some, Result, Ok, length-append}
+use Rattle.std.proofs.Common.{◌≡◌, ◌≢◌, ℕ, ◌+◌, ◌*◌, ◌≤◌, Bool, IsTrue, refl, ap, sym, subst, ◌∙◌, arith, List, ◌++◌, length, drop, replicate, Option, Some, Result, Ok, length-append}
 use Rattle.std.specs.List.{flat_map}
 use Rattle.std.proofs.lemmas.List.{length-drop, length-replicate}
 use Rattle.sec_base.specs.Link.{Wire}

@@ -1,7 +1,7 @@
 -- What the words of the client ask for is a procedure with its own arguments.
 use Rattle.std.proofs.Common.{◌≡◌, ℕ, ◌<◌, ◌^◌, true, refl, ap, sym, subst, ◌∙◌, List, []}
 use Rattle.rpc_program.specs.Programs.{ProgramSays}
-use Rattle.posts_program.specs.Posts.{is_one_opaque, are_args, posts_says}
+use Rattle.posts_program.specs.Posts.{is_one_opaque, are_args}
 use Rattle.posts_client.specs.Procedure.{procedure_number}
 use Rattle.posts_client.specs.declared.procedure.Procedure.{Procedure}
 use Rattle.posts_client.specs.declared.procedure.Procedure.TheVariants.{Null, Echo, Whoami, Post, Count}

@@ -28,7 +28,7 @@ use Rattle.pair_laws.specs.Honest.{HonestExchange}
 use Rattle.pair_laws.specs.Laws.{Completes}
 use Rattle.pair_laws.specs.Live.{lease_on}
 use Rattle.pair_laws.specs.Running.{Turn, sent_in, heard_in, Serves, Succeeds}
-use Rattle.pair_laws.specs.Running.{results_in, calls_made, parting_of, Logged, RunLaw}
+use Rattle.pair_laws.specs.Running.{results_in, calls_made, parting_of, Logged}
 
 -- the words ask a procedure that the program has, with that procedure's arguments: by its name they
 -- do so of the program of posts, by its number if these are so

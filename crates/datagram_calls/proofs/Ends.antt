@@ -1,5 +1,5 @@
 -- How the refusal of a session is the end of its run.
-use Rattle.std.proofs.Common.{◌≡◌, ◌≢◌, ◌⊎◌, inl, inr, ℕ, true, false, List, length, Option, refl, sym, ap, ◌∙◌}
+use Rattle.std.proofs.Common.{◌≡◌, ◌≢◌, inl, inr, ℕ, true, false, List, length, Option, refl, sym, ap, ◌∙◌}
 use Rattle.spnego_core.specs.declared.outcome.Outcome.{Outcome}
 use Rattle.client_options.specs.Endings as clients
 use Rattle.client_options.specs.declared.ending.RunEnd.{RunEnd}

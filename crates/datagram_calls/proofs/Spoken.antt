@@ -1,17 +1,13 @@
 -- A session of a plan, and what is returned of it.
-use Rattle.std.proofs.Common.{◌≡◌, ◌≢◌, ◌⊎◌, inl, inr, ◌∷◌, ◌++◌, ℕ, IsTrue, List, [], length, Option, None, refl, subst, ap}
-use Rattle.sec_base.specs.declared.clock.Clock as clocks
+use Rattle.std.proofs.Common.{◌≡◌, ℕ, List, Option, subst}
 use Rattle.sec_base.specs.declared.draw.Draw as draws
 use Rattle.spnego_core.specs.declared.outcome.Outcome.{Outcome}
-use Rattle.spnego_core.specs.declared.setup.MechCred.{MechCred}
 use Rattle.datagram_post.specs.declared.post.Post as posts
 use Rattle.gss_client.specs.Laws.{PlainCreation}
 use Rattle.gss_client.specs.Session.{SessionState}
 use Rattle.gss_client.specs.Start.{StartSays, StartMeans, objects_start}
 use Rattle.gss_client.specs.Talk.{created_over, created_from}
 use Rattle.gss_client.specs.Talking.{Talking}
-use Rattle.client_command.specs.Runs.{start_of}
-use Rattle.client_options.specs.declared.words.Plan.{Plan}
 use Rattle.datagram_options.specs.declared.ending.CallEnd.{CallEnd}
 use Rattle.datagram_calls.specs.Calls.{AsksOf}
 use Rattle.datagram_calls.specs.Sessions.{Holds, HoldsBy}

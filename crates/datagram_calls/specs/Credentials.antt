@@ -1,5 +1,5 @@
 -- The credentials of a run over datagrams: each creation call has room in one.
-use Rattle.std.specs.Prelude.{ℕ, Bool, true, nat_le, List, length, Result, Ok, Err}
+use Rattle.std.specs.Prelude.{Bool, true, nat_le, List, length, Result, Ok, Err}
 use Rattle.std.specs.Prelude.{if◌then◌else◌}
 use Rattle.std.specs.List.{list_all}
 use Rattle.spnego_core.specs.declared.setup.MechCred.{MechCred}

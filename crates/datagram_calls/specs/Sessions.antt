@@ -7,7 +7,7 @@ use Rattle.spnego_core.specs.declared.outcome.Outcome.{Outcome}
 use Rattle.spnego_core.specs.declared.setup.MechCred.{MechCred}
 use Rattle.datagram_post.specs.declared.post.Post as posts
 use Rattle.gss_client.specs.Session.{SessionState}
-use Rattle.gss_client.specs.Start.{StartMeans, objects_start}
+use Rattle.gss_client.specs.Start.{StartMeans}
 use Rattle.gss_client.specs.Talk.{created_over, created_from}
 use Rattle.gss_client.specs.Talking.{Talking}
 use Rattle.client_command.specs.Runs.{start_of}

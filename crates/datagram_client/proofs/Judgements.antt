@@ -1,23 +1,21 @@
 -- A judgement of a reply to a creation call is no fault of the link, and no end of the stream.
 use Rattle.std.specs.Prelude.{◌==◌, nat_le, not}
-use Rattle.std.proofs.Common.{◌≡◌, length, ℕ, Bool, true, false, List, Result, Ok, Err, subst}
+use Rattle.std.proofs.Common.{length, ℕ, Bool, true, false, List, Result, Ok, Err}
 use Rattle.rpc_msgs.specs.Replies.{ReplyValue, accepted, mismatch, auth_error}
 use Rattle.rpc_msgs.specs.ReplyReading.{reply_at}
 use Rattle.rpc_msgs.specs.declared.reply_reading.ReplyRefusal.{ReplyRefusal}
 use Rattle.rpc_msgs.specs.declared.xdr_reader.XdrRefusal.{XdrRefusal}
 use Rattle.rpcsec_msgs.specs.InitRes.{init_res_at}
 use Rattle.rpcsec_msgs.specs.declared.init_res.InitRes.{InitRes}
-use Rattle.spnego_core.specs.declared.outcome.Outcome.{Outcome}
 use Rattle.spnego_core.specs.declared.refusal.NegRefusal.{NegRefusal}
 use Rattle.spnego_core.specs.EndSteps.{StepOf}
 use Rattle.spnego_core.specs.EndSteps as steps
 use Rattle.gss_client.specs.declared.refusal.ClientRefusal.{ClientRefusal}
 use Rattle.gss_client.specs.declared.refusal.ClientRefusal.TheVariants as clients
-use Rattle.gss_client.specs.declared.refusal.Denial.TheVariants.{Rpc, Auth, Accept, Gss}
-use Rattle.gss_client.specs.declared.refusal.ReplyWhy.TheVariants.{Form, Xid, Verifier, Steps, Width}
-use Rattle.gss_client.specs.Creation.{Machine, CreatedOf}
-use Rattle.gss_client.specs.Creation as created
-use Rattle.gss_client.specs.Judging.{AnswerValue, GrantedValue, ◌>>=◌, due, xid_of, place_of, formed, granted, answer_in, is_verified, placed, granted_in, negotiated, by_step, creation_by}
+use Rattle.gss_client.specs.declared.refusal.Denial.TheVariants.{Accept, Gss}
+use Rattle.gss_client.specs.declared.refusal.ReplyWhy.TheVariants.{Xid, Verifier, Steps, Width}
+use Rattle.gss_client.specs.Creation.{Machine}
+use Rattle.gss_client.specs.Judging.{AnswerValue, GrantedValue, ◌>>=◌, due, xid_of, formed, granted, answer_in, is_verified, placed, granted_in, negotiated, by_step, creation_by}
 
 abbrev pub Judges : ClientRefusal → Type 0
 Judges clients.LinkFault = ⊥

@@ -1,13 +1,10 @@
 -- Datagrams that were passed over while the reply to a creation call is due.
-use Rattle.std.proofs.Common.{◌≡◌, ◌⊎◌, ℕ, ◌+◌, ◌<◌, ◌≤◌, Bool, true, false, IsTrue, List, [], ◌∷◌, ◌++◌, length, map, Option, None, Some, Result, Ok, Err, refl, ap, sym, ◌∙◌, subst, arith, append_assoc, append-nil}
+use Rattle.std.proofs.Common.{◌≡◌, ℕ, ◌+◌, ◌<◌, ◌≤◌, Bool, false, IsTrue, List, [], ◌∷◌, ◌++◌, length, map, Option, None, Some, Ok, Err, refl, ap, sym, ◌∙◌, subst, arith, append_assoc, append-nil}
 use Rattle.std.proofs.lemmas.List.{length_push}
-use Rattle.std.specs.List.{AllByRecursion}
 use Rattle.datagram_post.specs.declared.post.Post as posts
-use Rattle.datagram_client.specs.declared.hearing.Heard.{Heard}
 use Rattle.datagram_client.specs.declared.hearing.Heard.TheVariants as heards
-use Rattle.datagram_client.specs.declared.refusal.PostRefusal.{PostRefusal}
 use Rattle.datagram_client.specs.declared.refusal.PostRefusal.TheVariants as refusals
-use Rattle.datagram_client.specs.Hearing.{answers, AreOther, HeardAs, Hears, HearingEnds}
+use Rattle.datagram_client.specs.Hearing.{answers, AreOther, HeardAs, Hears}
 
 -- so far, over a post that tells
 pub record Passing (xid count count' : ℕ) (old new : List (Option (List ℕ))) : Type 0 where

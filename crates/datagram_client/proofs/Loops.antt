@@ -1,8 +1,8 @@
 -- A call that goes on: it was sent once for each wait, and once before.
-use Rattle.std.proofs.Common.{◌≡◌, ◌≢◌, ◌⊎◌, ℕ, zero, suc, ◌+◌, ◌-◌, ◌<◌, ◌≤◌, Bool, IsTrue, List, [], ◌∷◌, ◌++◌, length, take, Option, None, Some, Result, Ok, Err, flat_map, ap, sym, ◌∙◌, arith, refl, subst, inl, inr, append_assoc, append-nil, ap₂}
+use Rattle.std.proofs.Common.{◌≡◌, ℕ, suc, ◌+◌, ◌-◌, ◌<◌, ◌≤◌, IsTrue, List, [], ◌∷◌, ◌++◌, length, take, Option, None, Some, Ok, Err, flat_map, ap, sym, ◌∙◌, arith, refl, subst, append_assoc, append-nil, ap₂}
 use Rattle.std.specs.Prelude.{IsErrOf}
 use Rattle.std.specs.List.{AllByRecursion}
-use Rattle.std.proofs.lemmas.List.{take_all, length_push}
+use Rattle.std.proofs.lemmas.List.{length_push}
 use Rattle.sec_base.specs.Answers.{Rose}
 use Rattle.sec_base.specs.declared.draw.Draw as draws
 use Rattle.datagram_post.specs.declared.post.Post as posts

@@ -13,7 +13,7 @@ use Rattle.gss_client.specs.declared.refusal.ReplyWhy.TheVariants.{Steps}
 use Rattle.gss_client.specs.Calling.{creation_call}
 use Rattle.gss_client.specs.Creation.{Machine, OfferOf, CreatedOf}
 use Rattle.gss_client.specs.Creation as created
-use Rattle.gss_client.specs.Hearing.{whole, ended, next_of}
+use Rattle.gss_client.specs.Hearing.{whole, next_of}
 use Rattle.gss_client.specs.Judging.{creation_by}
 use Rattle.gss_client.specs.Session.{SessionState, xid_after}
 use Rattle.gss_client.specs.Start.{StartMeans}
@@ -24,8 +24,8 @@ use Rattle.init_ends.specs.Ends.{EndMeans}
 use Rattle.init_ends.specs.Initiating.{end_start, end_step}
 use Rattle.datagram_client.specs.declared.refusal.PostRefusal.{PostRefusal}
 use Rattle.datagram_client.specs.declared.refusal.PostRefusal.TheVariants as refusals
-use Rattle.datagram_client.specs.Hearing.{answers, AreOther, Hears, HearingEnds}
-use Rattle.datagram_client.specs.Creating.{client_refusal, marked, Turn, heard_in, reply_in, AreTurns, count_over, IsUnsent, Asked, Says, EndsBy, Creates}
+use Rattle.datagram_client.specs.Hearing.{answers, AreOther, Hears}
+use Rattle.datagram_client.specs.Creating.{client_refusal, marked, heard_in, reply_in, IsUnsent, Asked, Says, EndsBy, Creates}
 use Rattle.datagram_client.proofs.Judgements.{Judged, creation-judged}
 
 -- ---- a call and its reply

@@ -2,13 +2,13 @@
 use Rattle.std.proofs.Common.{◌≡◌, ℕ, suc, ◌*◌, List, [], ◌∷◌, ◌++◌, refl, ap, sym, ◌∙◌, subst, arith, flat_map, map, length, replicate, reverse}
 use Rattle.std.proofs.lemmas.List.{length-replicate}
 use Rattle.accept_book.specs.Booking.{BookOf}
-use Rattle.accept_book.specs.RecordShown.{Asked, booked, AskedStep, AskedLook, AskedAdmit, AskedEnd}
+use Rattle.accept_book.specs.RecordShown.{Asked, booked}
 use Rattle.accept_book.specs.declared.book_answer.Admitted.{Admitted}
 use Rattle.accept_core.specs.Entering.{gained}
 use Rattle.accept_core.specs.declared.entry.Receipt.{Receipt}
 use Rattle.accept_core.specs.Legal.{Legal}
 use Rattle.accept_core.specs.Logs.{LogOf}
-use Rattle.again_gate.specs.Again.{AgainOf, opened_gate}
+use Rattle.again_gate.specs.Again.{AgainOf}
 use Rattle.again_gate.specs.Turns.{Turned, Turning}
 use Rattle.again_laws.specs.Acting.{acting, xids, NoneAgain}
 use Rattle.again_laws.specs.Below.{HasBelow}

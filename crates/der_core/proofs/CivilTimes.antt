@@ -1,13 +1,12 @@
 -- Times as text: what is read is spelled so, and what is spelled so is read.
-use Rattle.std.proofs.Common.{◌≡◌, ℕ, zero, suc, ◌+◌, ◌-◌, ◌*◌, ◌/◌, ◌%◌, ◌<◌, ◌≤◌, Bool, true, false, cond, ◌&&◌, leb, ltb, eqb, List, [], ◌∷◌, ◌++◌, length, get_or, take, drop, pos, Result, Ok, refl, sym, ap, subst, ◌∙◌, arith}
+use Rattle.std.proofs.Common.{◌≡◌, ℕ, zero, suc, ◌+◌, ◌-◌, ◌*◌, ◌/◌, ◌%◌, ◌<◌, ◌≤◌, true, false, ◌&&◌, leb, ltb, eqb, List, [], ◌∷◌, ◌++◌, length, get_or, take, drop, pos, refl, sym, ap, subst, ◌∙◌, arith}
 use Rattle.std.proofs.lemmas.Bool.{leb-true, le-leb, ltb-true, lt-ltb, eqb-true, eq-eqb, and_from, and_right}
 use Rattle.std.proofs.lemmas.List.{take-append-drop, length-take, length-drop}
 use Rattle.jiff_core.specs.Calendar.{day_count}
-use Rattle.der_core.specs.Format.{Content}
 use Rattle.der_core.specs.Time.{epoch, day_number, is_date, year_of, month_of, day_of, seconds_to_10000, seconds_of, is_civil, civil_of, digits, numbers, are_digits, is_zulu, is_time, time_content}
 use Rattle.der_core.specs.Law.{IsContent}
 use Rattle.der_core.proofs.Steps.{passed, ok_is, both}
-use Rattle.der_core.proofs.Dates.{HasParts, HasBounds, date_again, date_found, date_within, date_bounds}
+use Rattle.der_core.proofs.Dates.{date_again, date_found, date_within, date_bounds}
 
 -- ---- digits
 

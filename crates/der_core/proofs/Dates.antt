@@ -1,10 +1,10 @@
 -- The days of the calendar as dates, both ways.
-use Rattle.std.proofs.Common.{◌≡◌, ℕ, zero, suc, ◌+◌, ◌-◌, ◌*◌, ◌/◌, ◌%◌, ◌<◌, ◌≤◌, Bool, true, false, cond, ◌&&◌, leb, ℤ, pos, neg_ℤ, ◌+ℤ◌, ◌≤ℤ◌, rules, ◌⊎◌, inl, inr, refl, sym, ap, subst, ◌∙◌, arith}
-use Rattle.std.proofs.lemmas.Bool.{cases_lt, cases_eq, leb-true, le-leb, lt-leb, and_from}
-use Rattle.jiff_core.specs.Calendar.{IsCivilDate, IsYear, days_in_month, days_in_year, days_of_months, day_of_year, day_count}
+use Rattle.std.proofs.Common.{◌≡◌, ℕ, zero, suc, ◌+◌, ◌-◌, ◌<◌, ◌≤◌, true, leb, ℤ, pos, neg_ℤ, ◌+ℤ◌, ◌≤ℤ◌, rules, inl, inr, refl, sym, ap, subst, ◌∙◌, arith}
+use Rattle.std.proofs.lemmas.Bool.{cases_lt, cases_eq, leb-true, le-leb, lt-leb}
+use Rattle.jiff_core.specs.Calendar.{IsCivilDate, days_in_month, days_in_year, days_of_months, day_of_year, day_count}
 use Rattle.jiff_core.proofs.CalendarLemmas.{days_in_month_bounds, day_count-epoch, day_count-end, day_count-next_year, day_count-day_of_year, day_of_year_bound, days_of_months-zero, days_of_months_more, days_of_months_all, days_of_months_mono}
 use Rattle.jiff_core.proofs.SignedLemmas.{signed_arith}
-use Rattle.der_core.specs.Time.{last, epoch, day_number, is_date, year_of, days_before, month_of, day_of}
+use Rattle.der_core.specs.Time.{last, epoch, is_date, year_of, days_before, month_of, day_of}
 use Rattle.der_core.proofs.Steps.{both}
 
 -- ---- the last number at which a function that rises is at most x

@@ -1,13 +1,12 @@
 -- The tag and the length of an element: what is read is spelled so, and what is spelled so is read.
-use Rattle.std.proofs.Common.{◌≡◌, ◌≢◌, ℕ, suc, ◌+◌, ◌-◌, ◌*◌, ◌/◌, ◌%◌, ◌^◌, ◌<◌, ◌≤◌, Bool, true, false, not, cond, ◌&&◌, ◌||◌, ltb, leb, eqb, ◌⊎◌, inl, inr, List, [], ◌∷◌, ◌++◌, length, take, drop, Result, Ok, Err, refl, sym, ap, subst, ◌∙◌, arith, append_assoc}
-use Rattle.std.proofs.lemmas.Bool.{cases_lt, ltb-true, ltb-false, lt-ltb, le-ltb, le-leb, leb-true, eqb-false, eqb-true, eq-eqb, ne_eqb}
+use Rattle.std.proofs.Common.{◌≡◌, ℕ, ◌+◌, ◌-◌, ◌*◌, ◌/◌, ◌%◌, ◌^◌, ◌<◌, ◌≤◌, Bool, true, false, not, ◌&&◌, ◌||◌, ltb, leb, eqb, inl, inr, List, [], ◌∷◌, ◌++◌, length, take, drop, Ok, refl, sym, ap, subst, ◌∙◌, arith, append_assoc}
+use Rattle.std.proofs.lemmas.Bool.{cases_lt, ltb-true, ltb-false, lt-ltb, le-ltb, le-leb, leb-true, eqb-true, eq-eqb, ne_eqb}
 use Rattle.std.proofs.lemmas.List.{take-append-drop, length-take, take_at, drop_at, length-append}
-use Rattle.der_core.specs.declared.refusal.DerRefusal.{DerRefusal}
-use Rattle.der_core.specs.Format.{Input, place, begins, ◌>>=◌, AreOctets}
+use Rattle.der_core.specs.Format.{Input, begins, ◌>>=◌, AreOctets}
 use Rattle.der_numbers.specs.Number.{natural_of, is_shortest_length}
-use Rattle.der_core.specs.Header.{length_octets, tlv, long_length_at, length_from, length_of, length_at, header_of, header_at, content_at, tlv_at}
+use Rattle.der_core.specs.Header.{length_octets, tlv, long_length_at, length_from, length_at, header_at, tlv_at}
 use Rattle.der_core.specs.Law.{Takes}
-use Rattle.der_core.proofs.Steps.{bind_ok, refused_not, passed, chosen, ok_is, both, octets-take, octets-drop, octets-first, octets-rest}
+use Rattle.der_core.proofs.Steps.{bind_ok, refused_not, passed, chosen, ok_is, both, octets-take, octets-drop, octets-rest}
 
 -- ---- the spelling of a long length, by its size
 

@@ -1,14 +1,14 @@
 -- The laws of the ways to make a format of formats.
-use Rattle.std.proofs.Common.{◌≡◌, ◌≢◌, ℕ, zero, suc, ◌+◌, ◌-◌, ◌*◌, ◌^◌, ◌<◌, ◌≤◌, Bool, true, false, not, cond, ◌&&◌, ltb, leb, eqb, ◌⊎◌, inl, inr, List, [], ◌∷◌, ◌++◌, length, take, drop, Option, Some, None, Result, Ok, Err, is_ok, get_or, refl, sym, ap, subst, ◌∙◌, arith, append_assoc}
-use Rattle.std.proofs.lemmas.Bool.{cases_lt, cases_Bool, ltb-true, ltb-false, lt-ltb, le-ltb, eqb-true, ne_eqb, and_from, eq-eqb}
+use Rattle.std.proofs.Common.{◌≡◌, ℕ, zero, suc, ◌+◌, ◌-◌, ◌^◌, ◌<◌, ◌≤◌, Bool, true, false, ◌&&◌, ltb, inl, inr, List, [], ◌∷◌, ◌++◌, length, take, Option, Some, None, Result, Ok, Err, is_ok, get_or, refl, sym, ap, subst, ◌∙◌, arith}
+use Rattle.std.proofs.lemmas.Bool.{ltb-true, lt-ltb, ne_eqb, and_from, eq-eqb}
 use Rattle.std.proofs.lemmas.List.{length-append, take_at, append-nil}
 use Rattle.der_core.specs.declared.refusal.DerRefusal.{DerRefusal}
-use Rattle.der_core.specs.Format.{Input, Format, Content, place, all_of, begins, ◌>>=◌, AreOctets}
+use Rattle.der_core.specs.Format.{Input, Format, Content, all_of, begins, ◌>>=◌, AreOctets}
 use Rattle.der_core.specs.Header.{tlv, tlv_at, end_at}
 use Rattle.der_core.specs.Element.{element, whole, explicit, plain, guarded, kept, are_octets}
 use Rattle.der_core.specs.Fields.{done, with_known, with_field, optional_at, optional_spelling, optional_fits, with_optional_known, with_optional, seen, many_step, many_of, many_spelling, many_fit, many, list_of}
 use Rattle.der_core.specs.Law.{Takes, IsFormat, IsContent, HasTag, IsFrom}
-use Rattle.der_core.proofs.Steps.{bind_ok, refused_not, passed, chosen, ok_is, both, octets-take, octets-drop}
+use Rattle.der_core.proofs.Steps.{bind_ok, passed, chosen, ok_is, both, octets-take}
 use Rattle.der_core.proofs.Headers.{tlv_takes, tlv_again}
 
 -- ---- elements

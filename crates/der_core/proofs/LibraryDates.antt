@@ -1,18 +1,17 @@
 -- The dates of the library that the code uses, and the days of the calendar.
-use Rattle.std.proofs.Common.{◌≡◌, ℕ, ◌+◌, ◌-◌, ◌*◌, ◌<◌, ◌≤◌, Bool, true, false, ◌&&◌, leb, ℤ, pos, negsuc, neg_ℤ, ◌+ℤ◌, ◌-ℤ◌, ◌≤ℤ◌, ◌<ℤ◌, unsigned_abs, ◌⊎◌, inl, inr, Some, None, cond, refl, sym, ap, subst, ◌∙◌, arith}
-use Rattle.std.proofs.lemmas.Bool.{cases_lt, leb-true, le-leb, false_from_ne_true}
+use Rattle.std.proofs.Common.{◌≡◌, ℕ, ◌+◌, ◌-◌, ◌<◌, ◌≤◌, true, false, ℤ, pos, negsuc, ◌-ℤ◌, ◌<ℤ◌, unsigned_abs, inl, inr, Some, None, cond, refl, sym, ap, ◌∙◌, arith}
+use Rattle.std.proofs.lemmas.Bool.{cases_lt, false_from_ne_true}
 use Rattle.std.proofs.lemmas.Int.{to_z-of_z, to_z_pos}
 use mir.Val.{SFits, of_z, to_z}
 use mir.Syntax.{Width, w8, w16, w32}
 use Rattle.jiff_core.specs.declared.civil.date.Date.{Date}
-use Rattle.jiff_core.specs.Calendar.{IsCivilDate, IsYear, IsDate, days_in_month, day_count, days_from_civil}
+use Rattle.jiff_core.specs.Calendar.{IsCivilDate, IsDate, day_count, days_from_civil}
 use Rattle.jiff_core.specs.Date.{IsYmd, epoch_day}
 use Rattle.jiff_core.proofs.CalendarLemmas.{day_count-epoch, day_count-lt_year}
 use Rattle.jiff_core.proofs.DateLemmas.{civil}
 use Rattle.jiff_core.proofs.SignedLemmas.{signed_arith}
 use Rattle.der_core.specs.Time.{epoch, day_number, is_date, year_of, month_of, day_of}
-use Rattle.der_core.proofs.Steps.{both}
-use Rattle.der_core.proofs.Dates.{HasParts, date_bounds, date_again, date_found, date_within, IsDay, is_day, is_date_from}
+use Rattle.der_core.proofs.Dates.{date_bounds, date_again, date_found, date_within, is_day, is_date_from}
 
 -- the library has the date that the calendar has
 pub library_has : (y m d : ℕ) → is_date y m d ≡ true → IsDate (pos y) (pos m) (pos d)

@@ -1,14 +1,12 @@
 -- Fields that were written one behind the other, and readings of all the octets, want of memory aside.
-use Rattle.std.proofs.Common.{◌≡◌, ◌≢◌, ℕ, Bool, true, List, [], ◌++◌, length, Option, Result, Ok, Err, refl, sym, ap, subst, ◌∙◌, append_assoc}
+use Rattle.std.proofs.Common.{◌≡◌, ℕ, List, ◌++◌, length, Option, Result, Ok, Err, refl, sym, ap, subst, ◌∙◌, append_assoc}
 use Rattle.std.specs.Prelude.{IfOk}
 use Rattle.std.proofs.lemmas.List.{append-nil}
 use Rattle.std.proofs.lemmas.Bool.{and_from}
 use Rattle.der_core.specs.declared.refusal.DerRefusal.{DerRefusal}
-use Rattle.der_core.specs.declared.refusal.DerWhy.TheVariants.{NoMemory}
 use Rattle.der_core.specs.Format.{Format, Content, AreOctets, all_of, Puts, PutsAll, MayAnswer, WritesWhole}
 use Rattle.der_core.specs.Fields.{done, with_known, with_field, with_optional_known, with_optional, PutsMaybe}
 use Rattle.der_core.specs.Law.{IsContent}
-use Rattle.der_core.proofs.Steps.{ok_is, refused_is}
 
 joined : (old f c mid new : List ℕ) → mid ≡ old ++ f → new ≡ mid ++ c → new ≡ old ++ (f ++ c)
 joined old f c mid new first second = second ∙ ap (λ (os : List ℕ). os ++ c) first ∙ append_assoc old f c

@@ -1,18 +1,17 @@
 -- The laws of the single values, and what they say of a reading.
-use Rattle.std.proofs.Common.{◌≡◌, ℕ, ◌+◌, ◌-◌, ◌*◌, ◌/◌, ◌%◌, ◌^◌, ◌<◌, ◌≤◌, Bool, true, false, ltb, eqb, List, [], ◌∷◌, ◌++◌, length, Result, Ok, Err, refl, sym, ap, subst, ◌∙◌, arith}
-use Rattle.std.specs.Prelude.{IfOk, IsOkAnd}
+use Rattle.std.proofs.Common.{◌≡◌, ℕ, ◌+◌, ◌-◌, ◌*◌, ◌/◌, ◌%◌, ◌^◌, ◌<◌, true, ltb, eqb, List, [], ◌∷◌, ◌++◌, Result, Ok, Err, refl, sym, ap, subst, ◌∙◌, arith}
 use Rattle.der_core.specs.declared.refusal.DerRefusal.{DerRefusal}
-use Rattle.der_core.specs.Format.{Input, Format, Content, AreOctets, place, Spells, Reads, Took, ReadsSpellings}
+use Rattle.der_core.specs.Format.{Input, Format, AreOctets, place, Reads, ReadsSpellings}
 use Rattle.std.proofs.lemmas.Bool.{ltb-true, lt-ltb, eqb-true}
 use Rattle.sec_base.specs.Oid.{is_oid}
 use Rattle.der_core.specs.Header.{tlv_at}
-use Rattle.der_core.specs.Element.{element, plain, any_octets, any_element, raw_element, kept, octet_string}
+use Rattle.der_core.specs.Element.{plain, any_octets, any_element, raw_element, octet_string}
 use Rattle.der_core.specs.Integer.{int32, int32_content, natural, natural_content, uint32}
 use Rattle.der_core.specs.Time.{time, time_content}
 use Rattle.der_core.specs.Values.{is_text, text, object_identifier, small_of, small_content, small, flags_of, flags_octets, flags_content, flags}
 use Rattle.der_core.proofs.CivilTimes.{time_content_law}
 use Rattle.der_core.proofs.TwosComplement.{int32_content_law, natural_content_law}
-use Rattle.der_core.specs.Law.{Takes, IsFormat, IsContent}
+use Rattle.der_core.specs.Law.{IsFormat}
 use Rattle.der_core.proofs.Steps.{ok_is, refused_is, passed}
 use Rattle.der_core.proofs.Laws.{element_law, plain_law, kept_law}
 

@@ -1,11 +1,10 @@
 -- INTEGER: what is read is spelled so, and what is spelled so is read.
-use Rattle.std.proofs.Common.{◌≡◌, ◌≢◌, ℕ, zero, suc, get_or, ◌+◌, ◌-◌, ◌*◌, ◌/◌, ◌%◌, ◌^◌, ◌<◌, ◌≤◌, Bool, true, false, not, cond, ◌&&◌, ◌||◌, ltb, leb, eqb, ◌⊎◌, inl, inr, List, [], ◌∷◌, ◌++◌, length, ℤ, pos, negsuc, Result, Ok, Err, refl, sym, ap, subst, ◌∙◌, arith}
-use Rattle.std.proofs.lemmas.Bool.{cases_lt, cases_Bool, ltb-true, ltb-false, lt-ltb, le-ltb, le-leb, lt-leb, leb-true, leb-false, eqb-false, eqb-true, eq-eqb, ne_eqb, or_parts, and_cases, not-true}
+use Rattle.std.proofs.Common.{◌≡◌, ℕ, zero, suc, get_or, ◌+◌, ◌-◌, ◌*◌, ◌/◌, ◌%◌, ◌<◌, ◌≤◌, true, false, not, ◌&&◌, ◌||◌, ltb, leb, eqb, inl, inr, List, [], ◌∷◌, length, ℤ, pos, negsuc, Ok, refl, sym, ap, subst, ◌∙◌, arith}
+use Rattle.std.proofs.lemmas.Bool.{cases_lt, cases_Bool, ltb-true, ltb-false, lt-ltb, le-ltb, le-leb, lt-leb, leb-true, leb-false, eqb-false, or_parts, and_cases, not-true}
 use Rattle.std.proofs.lemmas.Bool.Decides.{nat_tests}
-use Rattle.der_core.specs.declared.refusal.DerRefusal.{DerRefusal}
-use Rattle.der_core.specs.Format.{Input, Content, place, ◌>>=◌, AreOctets}
-use Rattle.der_numbers.specs.Number.{natural_of, natural_behind, flipped, is_negative}
-use Rattle.der_core.specs.Integer.{least, signed_octets, signed_of, has_spare_octet, shortest_of, shortest_at, is_int32, int32_at, int32_content, is_natural, natural_at, natural_content}
+use Rattle.der_core.specs.Format.{Input, ◌>>=◌, AreOctets}
+use Rattle.der_numbers.specs.Number.{natural_of, flipped, is_negative}
+use Rattle.der_core.specs.Integer.{least, signed_octets, signed_of, has_spare_octet, shortest_at, is_int32, int32_at, int32_content, is_natural, natural_at, natural_content}
 use Rattle.der_core.specs.Law.{IsContent}
 use Rattle.der_core.proofs.Steps.{bind_ok, refused_not, passed, ok_is, both, octets-take}
 

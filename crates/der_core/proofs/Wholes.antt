@@ -1,7 +1,7 @@
 -- What a reading of all the octets says, and the law of the frame.
-use Rattle.std.proofs.Common.{◌≡◌, ℕ, List, length, Result, Ok, Err, refl, sym, ap, subst, ◌∙◌}
+use Rattle.std.proofs.Common.{◌≡◌, ℕ, List, length, Result, Ok, Err, sym, ◌∙◌}
 use Rattle.der_core.specs.declared.refusal.DerRefusal.{DerRefusal}
-use Rattle.der_core.specs.Format.{Input, Content, AreOctets, all_of, Answers, WritesWhole, SpelledWhole}
+use Rattle.der_core.specs.Format.{Content, AreOctets, all_of, Answers, WritesWhole, SpelledWhole}
 use Rattle.der_core.specs.Element.{element, plain, any_octets}
 use Rattle.der_core.specs.Fields.{with_field}
 use Rattle.der_core.specs.Frame.{framed}

@@ -1,9 +1,8 @@
 -- Elements by their tags, and contents that are judged as a whole.
-use Rattle.std.specs.Prelude.{ℕ, ◌-◌, ◌^◌, Bool, true, false, ◌&&◌, nat_lt, if◌then◌else◌, is_ok}
-use Rattle.std.specs.Prelude.{List, [], ◌∷◌, length, take, Result, Ok}
-use Rattle.der_core.specs.declared.refusal.DerRefusal.{DerRefusal}
+use Rattle.std.specs.Prelude.{ℕ, ◌-◌, ◌^◌, Bool, true, ◌&&◌, nat_lt, if◌then◌else◌, is_ok}
+use Rattle.std.specs.Prelude.{List, [], ◌∷◌, length, take, Ok}
 use Rattle.der_core.specs.declared.refusal.DerWhy.TheVariants.{Value}
-use Rattle.der_core.specs.Format.{Input, Format, Content, all_of, place, refused, ◌>>=◌}
+use Rattle.der_core.specs.Format.{Format, Content, all_of, place, refused, ◌>>=◌}
 use Rattle.der_core.specs.Header.{tlv, tlv_at, end_at}
 
 -- one element with this tag and such a content

@@ -1,7 +1,7 @@
 -- What a reader has before it, and what a format of values is: how it is read, and how it is
 -- spelled.
-use Rattle.std.specs.Prelude.{◌≡◌, ◌≢◌, ℕ, ◌-◌, ◌<◌, ◌^◌, Bool, true, false, ◌==◌, ◌&&◌, nat_lt}
-use Rattle.std.specs.Prelude.{if◌then◌else◌, List, [], ◌∷◌, ◌++◌, length, Option, Some, None}
+use Rattle.std.specs.Prelude.{◌≡◌, ◌≢◌, ℕ, ◌-◌, ◌<◌, Bool, true, false, ◌==◌}
+use Rattle.std.specs.Prelude.{List, [], ◌∷◌, ◌++◌, length, Option, Some, None}
 use Rattle.std.specs.Prelude.{Result, Ok, Err, IfOk, IsOkAnd, slice_index}
 use Rattle.der_core.specs.declared.refusal.DerRefusal.{DerRefusal}
 use Rattle.der_core.specs.declared.refusal.DerWhy.{DerWhy}

@@ -1,7 +1,7 @@
 -- INTEGER, ITU-T X.690 section 8.3: two's complement in the fewest octets.
-use Rattle.std.specs.Prelude.{◌≡◌, ℕ, ◌+◌, ◌-◌, ◌/◌, ◌%◌, ◌^◌, Bool, true, false, not, ◌==◌, ◌&&◌}
+use Rattle.std.specs.Prelude.{ℕ, ◌/◌, ◌%◌, ◌^◌, Bool, false, not, ◌==◌, ◌&&◌}
 use Rattle.std.specs.Prelude.{◌||◌, nat_lt, nat_le, if◌then◌else◌, List, [], ◌∷◌, length, ℤ, pos}
-use Rattle.std.specs.Prelude.{negsuc, Result, Ok, Err}
+use Rattle.std.specs.Prelude.{negsuc, Result, Ok}
 use Rattle.der_core.specs.declared.refusal.DerRefusal.{DerRefusal}
 use Rattle.der_core.specs.declared.refusal.DerWhy.TheVariants.{NotShortest, Value}
 use Rattle.der_core.specs.Format.{Input, Format, Content, place, refused, ◌>>=◌}

@@ -1,5 +1,5 @@
 -- Values of one element each.
-use Rattle.std.specs.Prelude.{◌≡◌, ℕ, zero, ◌+◌, ◌/◌, ◌%◌, ◌^◌, Bool, true, false, not, ◌==◌, ◌&&◌}
+use Rattle.std.specs.Prelude.{◌≡◌, ℕ, ◌/◌, ◌%◌, ◌^◌, Bool, true, false, not, ◌==◌, ◌&&◌}
 use Rattle.std.specs.Prelude.{◌||◌, nat_lt, if◌then◌else◌, List, [], ◌∷◌, Option, Some, None}
 use Rattle.std.specs.Prelude.{Result, Ok}
 use Rattle.std.specs.Str.{is_utf8}
@@ -7,7 +7,7 @@ use Rattle.std.specs.Borrow.{Bor}
 use Rattle.sec_base.specs.Oid.{is_oid}
 use Rattle.der_core.specs.declared.refusal.DerRefusal.{DerRefusal}
 use Rattle.der_core.specs.declared.refusal.DerWhy.TheVariants.{Value}
-use Rattle.der_core.specs.Format.{Input, Format, Content, place, refused, ◌>>=◌}
+use Rattle.der_core.specs.Format.{Format, Content, place, refused, ◌>>=◌}
 use Rattle.der_numbers.specs.Number.{natural_of}
 use Rattle.der_core.specs.Element.{element, plain}
 

@@ -1,10 +1,10 @@
 -- The ticket of a drill is short.
-use Rattle.std.proofs.Common.{◌≡◌, ℕ, ◌+◌, ◌≤◌, lit≤, Bool, true, false, refl, arith, List, [], ◌∷◌, ◌++◌, length, Result, Ok, codes, replicate, Some, None, nat_le, ◌/◌, ◌%◌, nat_lt}
+use Rattle.std.proofs.Common.{◌≡◌, ℕ, ◌+◌, ◌≤◌, lit≤, Bool, true, false, refl, arith, List, [], ◌∷◌, ◌++◌, length, Result, Ok, Some, ◌/◌, ◌%◌, nat_lt}
 use Rattle.std.specs.Prelude.{if◌then◌else◌, pos}
 use Rattle.std.proofs.lemmas.Bool.{le-leb}
 use Rattle.std.proofs.lemmas.List.{length-append}
 use Rattle.der_core.specs.Header.{tlv, length_octets}
-use Rattle.der_core.specs.Element.{octet_string, explicit, element, whole}
+use Rattle.der_core.specs.Element.{octet_string, explicit}
 use Rattle.der_core.specs.Integer.{int32, uint32, natural, least}
 use Rattle.der_core.specs.Time.{time}
 use Rattle.der_core.specs.Values.{text, flags}
@@ -18,7 +18,6 @@ use Rattle.krb_msgs.specs.TransitedEncoding.{transited_encoding}
 use Rattle.krb_msgs.specs.EncTicketPart.{enc_ticket_part, enc_ticket_part_element}
 use Rattle.krb_msgs.specs.declared.enc_ticket_part.EncTicketPart.{EncTicketPart}
 use Rattle.krb_msgs.specs.Ticket.{ticket, ticket_element}
-use Rattle.krb_msgs.specs.declared.ticket.Ticket.{Ticket}
 use Rattle.krb_tokens.proofs.Unwrapping.{length-seal_of}
 use Rattle.ap_exchange.specs.Draws.{drawn_confounder}
 use Rattle.ap_exchange.specs.Keys.{ticket_usage}

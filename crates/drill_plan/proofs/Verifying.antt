@@ -1,10 +1,8 @@
 -- The line of the user in the file of verifiers is read as it is written.
-use Rattle.std.proofs.Common.{◌≡◌, ℕ, zero, suc, ◌/◌, List, [], ◌∷◌, ◌++◌, length, get_or, refl, sym, ap, ◌∙◌, arith, codes, Ok, append-nil}
+use Rattle.std.proofs.Common.{◌≡◌, ℕ, zero, suc, ◌/◌, List, [], ◌∷◌, ◌++◌, length, get_or, refl, sym, arith, codes, Ok, append-nil}
 use Rattle.std.specs.Int.{w32, to_be_bytes}
 use Rattle.sha1.specs.Sha1.{sha1, digest_bytes, hash_after, padded_message}
 use Rattle.base64.specs.GeneralPurpose.{IsBytes}
-use Rattle.scram_mech.specs.declared.verifiers.Verifier.{Verifier}
-use Rattle.scram_mech.specs.declared.refusal.VerifierRefusal.{VerifierRefusal}
 use Rattle.scram_mech.specs.Formats.{pieces, pieces_of}
 use Rattle.scram_mech.specs.Grammar.{AreOctets}
 use Rattle.scram_mech.specs.Judging.{judged}
@@ -12,7 +10,7 @@ use Rattle.scram_mech.specs.Laws.{Laws}
 use Rattle.scram_mech.specs.Secrets.{Secret, client_key, stored_key, salted}
 use Rattle.scram_mech.specs.Secrets as secrets
 use Rattle.scram_mech.specs.Values.{value_at, progress}
-use Rattle.scram_mech.specs.VerifierFile.{IsLine, SpellsFile}
+use Rattle.scram_mech.specs.VerifierFile.{IsLine}
 use Rattle.scram_mech.specs.Verifiers.{made_line, line_text, line_with, verifiers_of}
 use Rattle.scram_mech.proofs.Masks.{length-sha1, length-hmac, hmac-octets}
 use Rattle.drill_plan.specs.Setting.{user_name, user_secret, drill_verifiers}

@@ -1,12 +1,12 @@
 -- The turns of a client.
-use Rattle.std.proofs.Common.{◌≡◌, ◌≢◌, inl, inr, refl, ap, sym, subst, ◌∙◌, ℕ, Bool, true, false, nat_lt, List, [], ◌∷◌, length, take, Option, Some, None, Result, Ok, Err}
+use Rattle.std.proofs.Common.{◌≡◌, ◌≢◌, refl, ap, sym, subst, ◌∙◌, ℕ, Bool, true, false, nat_lt, List, [], ◌∷◌, length, take, Option, Some, None, Result, Ok, Err}
 use Rattle.std.proofs.lemmas.List.{append-nil}
 use Rattle.sec_base.specs.Link.{Wire}
-use Rattle.sec_base.specs.Streams.{Took, Put}
+use Rattle.sec_base.specs.Streams.{Put}
 use Rattle.krb_tokens.specs.declared.done.MechDone.{MechDone}
 use Rattle.mech_objects.specs.Meaning.{MechSays, next_by, takes}
 use Rattle.mech_objects.specs.declared.ask.MechAsk.{MechAsk}
-use Rattle.sasl_frames.specs.Messages.{framed, all_framed, Hears, IsNext}
+use Rattle.sasl_frames.specs.Messages.{framed, Hears}
 use Rattle.sasl_frames.specs.declared.message.ReadEnd.{ReadEnd}
 use Rattle.sasl_layer.specs.State.{LayerState}
 use Rattle.sasl_layer.specs.Layered.{sends, sent, receives, received}
@@ -37,10 +37,10 @@ use Rattle.mech_objects.specs.Standard.{standard, begun, answered, state_of, sta
 use Rattle.sasl_gssapi.specs.Initiating.{begins, goes_by, init_step}
 use Rattle.sasl_options.specs.declared.ending.RunEnd.{RunEnd}
 use Rattle.sasl_options.specs.declared.ending.RunEnd.TheVariants.{LinkFault, PeerEnded, Finished}
-use Rattle.sasl_command.specs.Turns.{Went, Seen, Deals, Turn, Did, Ended as RunEnded, Made, Leads, Spoken, beside, end_of, end_of_read}
+use Rattle.sasl_command.specs.Turns.{Went, Seen, Deals, Did, Ended as RunEnded, Made, Leads, Spoken, beside, end_of, end_of_read}
 use Rattle.sasl_command.specs.Asking.{Asker, Opens, Begun, Chosen, Awaits, Read, Asks, limit, facts_of, echo_of, IsAnswered, IsDue, Spoke, Reached, IsKerberos, IsFirst, IsSecondStep, Opened, OpenedBy, Stepped, SteppedBy, Sends, SentBy, Reads, ReadBy, Replied, message_of}
-use Rattle.sasl_command.proofs.Devices.{deals-none, deals-took, went-none, went-put}
-use Rattle.sasl_command.proofs.Turning.{turned, stopped, ended, unread, leads-one, leads-after, leads-end, spoken-at, spoken-after}
+use Rattle.sasl_command.proofs.Devices.{deals-none, deals-took}
+use Rattle.sasl_command.proofs.Turning.{turned, stopped, ended, unread, leads-one, leads-after, spoken-at, spoken-after}
 use Rattle.sasl_command.proofs.Answering.{deals-by, wrote-one, wrote-front, refused}
 
 -- only the link moved

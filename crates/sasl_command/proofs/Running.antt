@@ -1,5 +1,5 @@
 -- Runs that ended before a word was spoken.
-use Rattle.std.proofs.Common.{◌≡◌, ◌≢◌, inl, inr, ◌∙◌, ap, sym, refl, ℕ, Bool, false, List, [], Option, None, Result, Ok, Err}
+use Rattle.std.proofs.Common.{◌≡◌, ◌≢◌, inl, refl, ℕ, Bool, false, List, [], Option, None, Result, Ok, Err}
 use Rattle.sec_base.specs.declared.shelf.Shelf as shelves
 use Rattle.sec_base.specs.declared.sink.Sink as sinks
 use Rattle.gss_base.specs.Name.{Name}
@@ -17,10 +17,10 @@ use Rattle.sasl_options.specs.declared.ending.RunEnd.TheVariants.{NoMemory}
 use Rattle.sasl_options.specs.declared.words.Wished.{Wished}
 use Rattle.sasl_options.specs.declared.words.Words.{Words}
 use Rattle.sasl_options.specs.declared.words.Words.TheVariants.{Serve, Ask}
-use Rattle.sasl_command.specs.Turns.{Seen, Ended}
+use Rattle.sasl_command.specs.Turns.{Seen}
 use Rattle.sasl_command.specs.Serving.{limit, Serves, IsServed, IsBefore, IsWish, Served}
 use Rattle.sasl_command.specs.Asking as asking
-use Rattle.sasl_command.specs.Runs.{IsSilent, Nothing, Ran, SpokeBy}
+use Rattle.sasl_command.specs.Runs.{Nothing, Ran, SpokeBy}
 use Rattle.sasl_command.specs.declared.asking.Asked.{Asked as Came}
 use Rattle.sasl_command.specs.declared.serving.Stage.TheVariants.{Before}
 use Rattle.sasl_command.proofs.Devices.{deals-none}

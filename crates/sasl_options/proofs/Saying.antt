@@ -1,5 +1,5 @@
 -- The line of a known status is the line that is due.
-use Rattle.std.proofs.Common.{◌≡◌, ◌≢◌, ℕ, List, true, false, sym, ◌∙◌, arith}
+use Rattle.std.proofs.Common.{◌≡◌, ◌≢◌, ℕ, List, false, sym, ◌∙◌, arith}
 use Rattle.cli_base.specs.Lines.{SaysLine, Says}
 
 pub known-said : {old new : List ℕ} {status : ℕ} {line : List ℕ} (known : ℕ) → known ≢ 8 → (status ≢ 6 → status ≡ known) → SaysLine old new status line → Says old new status line

@@ -7,13 +7,11 @@ use Rattle.gss_base.specs.Signs.{parsed}
 use Rattle.gss_base.specs.declared.principal.NameRefusal.{NameRefusal}
 use Rattle.hex.specs.Hex.{decode_of}
 use Rattle.hex.specs.declared.error.FromHexError.{FromHexError}
-use Rattle.cli_base.specs.Given.{◌>>=◌, or_usage, demanded, number_given}
+use Rattle.cli_base.specs.Given.{◌>>=◌, demanded, number_given}
 use Rattle.cli_base.specs.Words.{are_words, value_of, first_word, plain_of}
 use Rattle.cli_base.specs.declared.given.WordsRefusal.{WordsRefusal}
 use Rattle.cli_base.specs.declared.given.WordsRefusal.TheVariants.{Usage}
 use Rattle.cli_words.specs.Sasl.{sasl_names}
-use Rattle.sasl_options.specs.declared.words.AskWords.{AskWords}
-use Rattle.sasl_options.specs.declared.words.ServeWords.{ServeWords}
 use Rattle.sasl_options.specs.declared.words.Wished.{Wished}
 use Rattle.sasl_options.specs.declared.words.Words.{Words}
 use Rattle.sasl_options.specs.declared.words.Words.TheVariants.{Serve, Ask}

@@ -1,5 +1,5 @@
 -- Tokens of messages, by the context that a handle holds (RFC 4121 section 4.2).
-use Rattle.std.specs.Prelude.{◌≡◌, ◌≢◌, ℕ, Bool, List, Option, Some, None, Result, Ok, Err, length}
+use Rattle.std.specs.Prelude.{ℕ, Bool, List, Option, Some, None, Result, Ok, Err, length}
 use Rattle.krb_tokens.specs.declared.end.TokenRefusal.{TokenRefusal}
 use Rattle.krb_tokens.specs.declared.wrap.Unwrapped.{Unwrapped}
 use Rattle.krb_tokens.specs.Mic.{mic_of, checked_mic}

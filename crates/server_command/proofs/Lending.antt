@@ -9,14 +9,13 @@ use Rattle.sec_base.specs.declared.clock.Clock as clocks
 use Rattle.sec_base.specs.declared.draw.Draw as draws
 use Rattle.rpc_msgs.specs.Records.{Fragments, octets_in}
 use Rattle.accept_core.specs.Logs.{LogOf}
-use Rattle.accept_book.specs.RecordShown.{Asked, booked}
+use Rattle.accept_book.specs.RecordShown.{Asked}
 use Rattle.accept_book.specs.declared.book_answer.Admitted.{Admitted}
 use Rattle.accept_core.specs.declared.entry.Receipt.{Receipt}
 use Rattle.rpc_program.specs.Programs.{Serving}
 use Rattle.rpc_program.specs.declared.program.Program as programs
 use Rattle.rpc_program.specs.declared.program.Speller as spellers
 use Rattle.accept_book.specs.declared.book_answer.Lease.{Lease}
-use Rattle.gss_server.specs.Asking.{Asking}
 use Rattle.gss_server.specs.Connections.{asked_for, asked_in}
 use Rattle.gss_server.specs.Hearing.{kept_answers, serving}
 use Rattle.gss_server.specs.declared.answer.Kept.{Kept}
@@ -28,7 +27,7 @@ use Rattle.book_seats.proofs.Moves.{of-append, of-own, of-else}
 use Rattle.history_laws.specs.Before.{Gives, IsGiven}
 use Rattle.history_laws.specs.Lent.{AllLent, Takes}
 use Rattle.history_laws.proofs.Lent.{LentFrom, lent-join, lends-record, at-place, lent-booked}
-use Rattle.server_desks.specs.Desks.{ServedOf, ServedLink, LinksServed, DeskServed, run_limit}
+use Rattle.server_desks.specs.Desks.{ServedOf, ServedLink, LinksServed, run_limit}
 use Rattle.server_desks.specs.declared.desk.Desk.{Desk}
 use Rattle.server_desks.specs.declared.desk.DeskEnd.{DeskEnd}
 use Rattle.server_options.specs.declared.ending.RunEnd.{RunEnd}

@@ -1,12 +1,11 @@
 -- A request of Kerberos that comes without negotiation, and tokens that negotiate.
-use Rattle.std.proofs.Common.{◌≡◌, ℕ, ◌^◌, ◌&&◌, Bool, true, false, not, if◌then◌else◌, nat_lt, refl, sym, ap, subst, List, [], ◌∷◌, ◌++◌, length, Option, Some, None, Result, Ok, Err}
+use Rattle.std.proofs.Common.{◌≡◌, ℕ, ◌&&◌, Bool, true, false, if◌then◌else◌, refl, subst, List, [], ◌∷◌, length, Option, Some, None, Result, Ok, Err}
 use Rattle.gss_base.specs.declared.mech.MechKind.{MechKind}
 use Rattle.gss_base.specs.declared.mech.MechKind.TheVariants as kinds
 use Rattle.gss_base.specs.declared.mech.MechKind.TheVariants.{Kerberos}
 use Rattle.gss_base.specs.declared.mech.KerberosName.TheVariants.{Standard}
 use Rattle.gss_base.specs.Mech.{oid_of, mech_of}
 use Rattle.der_core.specs.declared.refusal.DerRefusal.{DerRefusal}
-use Rattle.der_core.specs.Header.{tlv}
 use Rattle.der_core.specs.Format.{all_of}
 use Rattle.der_core.specs.Frame.{framed}
 use Rattle.der_core.specs.Values.{object_identifier}
@@ -21,7 +20,7 @@ use Rattle.spnego_core.specs.declared.setup.AcceptSetup.{AcceptSetup}
 use Rattle.spnego_core.specs.declared.setup.MechCred.{MechCred}
 use Rattle.spnego_core.specs.declared.setup.MechCred.TheVariants as creds
 use Rattle.spnego_core.specs.Choice.{is_first, is_kind, best, is_mic_due}
-use Rattle.spnego_core.specs.Bare.{if_kerberos, kerberos_in, kerberos_framed, takes_bare, bare_oid}
+use Rattle.spnego_core.specs.Bare.{kerberos_in, kerberos_framed, takes_bare, bare_oid}
 use Rattle.spnego_core.specs.InitMech.{is_bare_list}
 use Rattle.spnego_core.specs.Tokens.{init_octets}
 

@@ -28,7 +28,7 @@ use Rattle.spnego_core.specs.Sizes.{IsShort}
 use Rattle.spnego_core.specs.Tokens.{init_read, init_octets, resp_read, resp_octets}
 use Rattle.spnego_core.specs.Choice.{listed_as}
 use Rattle.spnego_core.specs.InitMech.{name_of, oid_listed, is_own_list}
-use Rattle.spnego_core.specs.Accepting.{mech_said, reply_with, reply}
+use Rattle.spnego_core.specs.Accepting.{mech_said, reply_with}
 use Rattle.spnego_core.specs.Initiating.{own_list, first_sent, token_sent, mic_sent}
 use Rattle.spnego_core.proofs.Sizes.{Within}
 use Rattle.spnego_core.proofs.Listed.{listed-named, listed-few}

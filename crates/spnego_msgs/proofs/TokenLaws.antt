@@ -1,10 +1,9 @@
 -- Both tokens: what is read is spelled so, and what is spelled so is read.
-use Rattle.std.proofs.Common.{◌≡◌, ℕ, ◌+◌, ◌≤◌, Bool, true, false, cond, ◌&&◌, eqb, inl, inr, List, [], ◌∷◌, ◌++◌, length, Result, Ok, Err, refl, sym, ap, subst, ◌∙◌, arith}
+use Rattle.std.proofs.Common.{◌≡◌, ℕ, true, eqb, inl, inr, List, [], ◌∷◌, Ok, refl, sym, ap, ◌∙◌, arith}
 use Rattle.std.proofs.lemmas.Bool.{eqb-true}
-use Rattle.der_core.specs.declared.refusal.DerRefusal.{DerRefusal}
-use Rattle.der_core.specs.Format.{Input, Format, Content, place, Spells}
-use Rattle.der_core.specs.Element.{element, whole, explicit, plain, any_octets, octet_string, guarded}
-use Rattle.der_core.specs.Fields.{done, with_field, with_optional, list_of, seen}
+use Rattle.der_core.specs.Format.{place}
+use Rattle.der_core.specs.Element.{whole, plain, any_octets}
+use Rattle.der_core.specs.Fields.{with_field, list_of}
 use Rattle.der_core.specs.Values.{object_identifier}
 use Rattle.der_core.specs.Law.{IsFormat, IsContent, HasTag}
 use Rattle.der_core.proofs.Steps.{passed, chosen, ok_is, both, refused_is}

@@ -1,5 +1,5 @@
 -- What an acceptor signs of a list of the own mechanisms is nothing that it signs of a result or a word, and says the list.
-use Rattle.std.proofs.Common.{◌≡◌, inl, inr, ℕ, ◌-◌, ◌%◌, ◌<◌, ◌==◌, Bool, true, false, if◌then◌else◌, refl, sym, ap, subst, ◌∙◌, arith, List, [], ◌∷◌, ◌++◌, length, take, drop, replicate, length-append}
+use Rattle.std.proofs.Common.{◌≡◌, ℕ, ◌-◌, ◌<◌, true, refl, sym, ap, subst, ◌∙◌, arith, List, [], ◌∷◌, ◌++◌, length, take, drop, length-append}
 use Rattle.std.proofs.lemmas.List.{length-take-le, length-drop, take-append-drop}
 use Rattle.gss_base.specs.declared.mech.MechName.{MechName}
 use Rattle.rpc_msgs.specs.Words.{word}

@@ -1,6 +1,6 @@
 -- What a question that is due says of its record, by the rule of a record.
 use Rattle.std.proofs.Common.{◌≡◌, ℕ, Bool, true, false, refl, sym, ◌∙◌, subst, List, length, take, Option, Some, None, Result, Ok, Err}
-use Rattle.std.specs.Prelude.{◌==◌, ◌||◌, ◌&&◌, not, if◌then◌else◌, nat_lt}
+use Rattle.std.specs.Prelude.{◌==◌, ◌||◌, ◌&&◌, not, if◌then◌else◌}
 use Rattle.std.proofs.lemmas.Option.{none-some, same_Some}
 use Rattle.rpc_msgs.specs.Calls.{CallValue, call_at}
 use Rattle.rpc_msgs.specs.declared.call.CallRefusal.{CallRefusal}
@@ -20,7 +20,6 @@ use Rattle.accept_book.specs.declared.book_answer.NegAnswer.TheVariants as steps
 use Rattle.accept_book.specs.declared.book_answer.Negotiated.{Negotiated}
 use Rattle.accept_book.specs.declared.book_answer.Admitted.{Admitted}
 use Rattle.rpc_program.specs.Programs.{Serving}
-use Rattle.rpcsec_bodies.specs.declared.service.Service.{Service}
 use Rattle.rpcsec_bodies.specs.Service.{service_of}
 use Rattle.rpc_program.specs.declared.outcome.Outcome.{Outcome}
 use Rattle.rpc_program.specs.declared.outcome.Outcome.TheVariants as outcomes

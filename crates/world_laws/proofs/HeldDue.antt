@@ -1,5 +1,5 @@
 -- A token that is due to the book is due with the record's moment.
-use Rattle.std.proofs.Common.{◌≡◌, ℕ, Bool, true, false, ◌==◌, ◌||◌, ◌&&◌, nat_lt, if◌then◌else◌, List, length, take, Option, Some, None, Result, Ok, Err, refl, subst}
+use Rattle.std.proofs.Common.{◌≡◌, ℕ, Bool, true, false, ◌==◌, ◌||◌, ◌&&◌, if◌then◌else◌, List, length, take, Option, Some, None, Result, Ok, Err, refl, subst}
 use Rattle.std.specs.Prelude.{not}
 use Rattle.rpc_msgs.specs.Calls.{CallValue, call_at}
 use Rattle.rpc_msgs.specs.declared.call.CallRefusal.{CallRefusal}

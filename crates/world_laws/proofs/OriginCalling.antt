@@ -1,5 +1,5 @@
 -- What each event adds to the calls that were made.
-use Rattle.std.proofs.Common.{◌≡◌, ◌≢◌, ◌⊎◌, inl, inr, ℕ, Bool, true, false, nat_le, refl, sym, ◌∙◌, ap, subst, List, [], ◌++◌, append-nil, slice_get, Option, Some, None, option_to_list, Ok, Err, arith, ◌==◌}
+use Rattle.std.proofs.Common.{◌≡◌, ◌≢◌, ◌⊎◌, inl, inr, ℕ, Bool, true, false, nat_le, refl, sym, ◌∙◌, ap, subst, List, [], ◌++◌, append-nil, slice_get, Option, Some, None, arith, ◌==◌}
 use Rattle.std.proofs.lemmas.Bool.Decides.{nat_tests}
 use Rattle.scram_mech.specs.MechMaking.{MechMaking, AmongMakings}
 use Rattle.spnego_core.specs.Ends.{PlainSetup, EndSays}
@@ -20,7 +20,7 @@ use Rattle.world_laws.specs.State.{InHand, World}
 use Rattle.world_laws.specs.Initiators.{Moved, starts, takes, calls, leaves}
 use Rattle.world_laws.specs.Lanes.{in_hand, LaneMoves}
 use Rattle.world_laws.specs.Events.{Idles, Moves, StartsBy, DeliversBy, CallsWith, CallsBy, LanesBy, HappensBy, IsProper, Happens}
-use Rattle.world_laws.proofs.Invariants.{Below, Known, Held, ByContext}
+use Rattle.world_laws.proofs.Invariants.{Below, Known, Held}
 use Rattle.world_laws.proofs.Growing.{Grows, grows, completed-stays}
 use Rattle.world_laws.proofs.Happening.{Came, came}
 use Rattle.world_laws.proofs.Moving.{starts-by, takes-by}

@@ -1,5 +1,5 @@
 -- Whoever handed out a making stays its owner; what initiators hand out.
-use Rattle.std.proofs.Common.{◌≡◌, ◌⊎◌, inl, inr, ℕ, ◌≤◌, ◌==◌, cond, true, refl, sym, ap, subst, List, [], ◌∷◌, ◌++◌, map, slice_get, Option, Some, Ok}
+use Rattle.std.proofs.Common.{◌≡◌, ◌⊎◌, inl, inr, ℕ, ◌==◌, cond, refl, sym, ap, subst, List, [], ◌∷◌, ◌++◌, map, slice_get, Option, Some, Ok}
 use Rattle.gss_base.specs.declared.mech.MechKind.{MechKind}
 use Rattle.krb_derive.specs.Making.{Making}
 use Rattle.scram_mech.specs.Initiator.{InitModel}

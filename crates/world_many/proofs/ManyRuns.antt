@@ -16,7 +16,6 @@ use Rattle.history_laws.proofs.Histories.{Fronts}
 use Rattle.world_laws.specs.declared.event.WorldEvent.{WorldEvent}
 use Rattle.world_laws.specs.declared.event.WorldEvent.TheVariants.{Start, Deliver, Lane, CallBy}
 use Rattle.world_laws.specs.Below.{Below}
-use Rattle.world_laws.specs.Stages.{StageSays}
 use Rattle.world_laws.specs.Stages as stages
 use Rattle.world_laws.specs.Deeds.{Deed}
 use Rattle.world_laws.specs.Events.{Run, Begins}

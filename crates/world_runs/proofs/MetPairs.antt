@@ -31,7 +31,7 @@ use Rattle.spnego_core.specs.declared.accept_mech.AcceptMech.TheVariants as mech
 use Rattle.spnego_core.specs.declared.accept_end.AcceptEnd.{AcceptEnd}
 use Rattle.spnego_core.specs.declared.accept_end.AcceptEnd.TheVariants as accepts
 use Rattle.spnego_core.specs.declared.accept_end.Turn.{Turn}
-use Rattle.spnego_core.specs.declared.accept_end.Turn.TheVariants.{First, Later, Bare}
+use Rattle.spnego_core.specs.declared.accept_end.Turn.TheVariants.{First, Later}
 use Rattle.spnego_core.specs.Ends.{PlainSetup}
 use Rattle.spnego_core.specs.Ends as inits
 use Rattle.spnego_core.specs.AcceptMech.{accept_begun}

@@ -1,4 +1,4 @@
-use Rattle.std.proofs.Common.{◌≡◌, true, List, map, sym, subst}
+use Rattle.std.proofs.Common.{◌≡◌, true, List, sym, subst}
 use Rattle.clap.specs.Walk.{Row}
 use Rattle.clap.specs.Simple.{app_of, built, is_simple, argument_words}
 use Rattle.clap.specs.Takes.{built_takes}

@@ -1,4 +1,4 @@
-use Rattle.std.proofs.Common.{◌≡◌, ◌∙◌, ap, sym, subst, Some}
+use Rattle.std.proofs.Common.{◌≡◌, ◌∙◌, sym, subst, Some}
 use Rattle.spnego_core.specs.declared.outcome.Outcome.{Outcome}
 use Rattle.pair_laws.specs.Running.{RunLaw}
 use Rattle.client_laws.proofs.run.tell_outcome.Goals as goal

@@ -1,10 +1,10 @@
-use Rattle.std.proofs.Common.{Option, Ok, ◌≡◌, refl, arith, sym, ap, ◌∙◌, subst}
+use Rattle.std.proofs.Common.{Option, Ok, arith, ap, ◌∙◌, subst}
 use Rattle.gss_client.specs.declared.again.Judged.{Judged}
 use Rattle.datagram_client.specs.Hearing.{HeardOnce}
 use Rattle.gss_client.specs.declared.refusal.ClientRefusal.TheVariants as clients
 use Rattle.gss_client.specs.Again.{Judges, takes, refuses}
 use Rattle.gss_client.specs.Session.{session_after}
-use Rattle.datagram_client.proofs.Loops.{Loop, began, rose-later, sent-again, last-wait, passed-over, decides, spent-first, spent-later, broke, broke-again, broke-first, same-refusal}
+use Rattle.datagram_client.proofs.Loops.{began, rose-later, sent-again, last-wait, passed-over, decides, spent-first, spent-later, broke, broke-again, broke-first, same-refusal}
 use Rattle.datagram_client.specs.declared.refusal.PostRefusal.TheVariants as refusals
 use Rattle.datagram_client.proofs.calling.call_session.Goals as goal
 

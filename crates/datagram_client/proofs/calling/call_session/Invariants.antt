@@ -1,4 +1,4 @@
-use Rattle.std.proofs.Common.{◌-◌, ◌+◌, ◌≡◌, ◌≤◌, ◌<◌, ℕ}
+use Rattle.std.proofs.Common.{◌-◌, ◌+◌}
 use Rattle.datagram_client.proofs.Loops.{Loop}
 use Rattle.datagram_client.proofs.calling.call_session.Given as goal
 

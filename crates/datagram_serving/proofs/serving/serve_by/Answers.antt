@@ -1,8 +1,7 @@
-use Rattle.std.proofs.Common.{◌≡◌, List, [], ◌∷◌, ◌++◌, ap, sym, ◌∙◌, subst, flat_map, Some}
+use Rattle.std.proofs.Common.{ap, ◌∙◌, subst, Some}
 use Rattle.accept_book.specs.Booking.{BookOf}
 use Rattle.accept_core.specs.Legal.{Legal}
 use Rattle.accept_core.specs.declared.entry.Limits.{Limits}
-use Rattle.gss_server.specs.declared.answer.Kept.{Kept}
 use Rattle.datagram_serving.proofs.Once.{counted}
 use Rattle.datagram_serving.proofs.serving.serve_by.Goals as goal
 

@@ -1,4 +1,4 @@
-use Rattle.std.proofs.Common.{◌≡◌, map, None, IsTrue, Ok, Err}
+use Rattle.std.proofs.Common.{map, None, IsTrue}
 use Rattle.sasl_gssapi.specs.Ends.{init_means}
 use Rattle.sasl_command.specs.Turns.{seen}
 use Rattle.sasl_command.specs.Asking.{Opens, Begun, Chosen, Asks}

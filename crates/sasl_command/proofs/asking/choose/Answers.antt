@@ -1,9 +1,8 @@
-use Rattle.std.proofs.Common.{◌≡◌, ◌∙◌, arith, ap, sym, subst, refl, ℕ, List, [], ◌∷◌, Option, Some, None, IsTrue, Ok, Err}
-use Rattle.std.proofs.lemmas.List.{append-nil}
+use Rattle.std.proofs.Common.{ap}
 use Rattle.sasl_gssapi.specs.Ends.{init_by, step_by}
 use Rattle.sasl_command.specs.Asking.{Begun, Chosen, Asks}
 use Rattle.sasl_command.proofs.Turning.{leads-one}
-use Rattle.sasl_command.proofs.AskTurns.{replied-more, replied-done, reached-after, spoke-at}
+use Rattle.sasl_command.proofs.AskTurns.{replied-done, spoke-at}
 use Rattle.sasl_command.proofs.asking.choose.Goals as goal
 
 pub returns-in-Ok-Done-clause-told : goal.returns-in-Ok-Done-clause-told

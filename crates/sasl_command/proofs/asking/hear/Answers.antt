@@ -1,12 +1,10 @@
-use Rattle.std.proofs.Common.{◌≡◌, ◌∙◌, arith, ap, sym, subst, refl, ℕ, List, [], ◌∷◌, Option, Some, None, IsTrue, Ok, Err}
-use Rattle.std.proofs.lemmas.List.{append-nil}
+use Rattle.std.proofs.Common.{sym, subst, ℕ, List, Some, Ok, Err}
 use Rattle.sasl_frames.specs.Messages.{Hears}
 use Rattle.sasl_layer.specs.declared.facts.LayerFacts.{LayerFacts}
 use Rattle.sasl_layer.specs.Layered.{received}
 use Rattle.sasl_options.specs.declared.ending.RunEnd.TheVariants.{Finished, PeerEnded}
 use Rattle.sasl_command.specs.Turns.{beside, end_of, end_of_read}
 use Rattle.sasl_command.specs.Asking.{Awaits, Read, Asks}
-use Rattle.sasl_command.specs.declared.asking.Asked.{Asked as Ran}
 use Rattle.sasl_command.proofs.Turning.{leads-one}
 use Rattle.sasl_command.proofs.AskTurns.{heard, heard-not, unheard, finished, spoke-at, spoke-after, spoke-as, ran-as}
 use Rattle.sasl_command.proofs.asking.hear.Goals as goal

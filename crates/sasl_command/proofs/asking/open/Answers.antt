@@ -1,4 +1,4 @@
-use Rattle.std.proofs.Common.{◌≡◌, ◌∙◌, arith, map, ap, sym, ℕ, List, [], ◌∷◌, Ok, Err}
+use Rattle.std.proofs.Common.{arith, map, [], ◌∷◌}
 use Rattle.sasl_gssapi.specs.Ends.{init_means}
 use Rattle.sec_base.proofs.InARow.{put-told}
 use Rattle.sasl_command.specs.Asking.{Begun, Opened}

@@ -1,5 +1,4 @@
-use Rattle.std.proofs.Common.{◌≡◌, ◌∙◌, arith, ap, sym, subst, refl, ℕ, List, [], ◌∷◌, Option, Some, None, IsTrue, Ok, Err}
-use Rattle.std.proofs.lemmas.List.{append-nil}
+use Rattle.std.proofs.Common.{ap, IsTrue}
 use Rattle.sasl_gssapi.specs.Ends.{init_by, step_by}
 use Rattle.sasl_command.specs.Turns.{beside}
 use Rattle.sasl_command.specs.Asking.{Begun, Chosen, Asks}

@@ -1,8 +1,5 @@
-use Rattle.std.proofs.Common.{◌≡◌, ◌∙◌, ap, sym, subst, ℕ, List, IsTrue, Ok, Err}
-use Rattle.sasl_frames.specs.Messages.{Hears, framed}
-use Rattle.sasl_gssapi.specs.Choosing.{most}
+use Rattle.std.proofs.Common.{IsTrue}
 use Rattle.sasl_gssapi.specs.Ends.{init_by, step_by}
-use Rattle.sasl_gssapi.specs.Initiating.{init_step}
 use Rattle.sec_base.proofs.InARow.{put-told}
 use Rattle.sasl_command.proofs.AskTurns.{replied, replied-cut, replied-not, second-step, unreplied}
 use Rattle.sasl_command.proofs.asking.reply.Goals as goal

@@ -1,4 +1,4 @@
-use Rattle.std.proofs.Common.{◌≡◌, ◌∙◌, arith, ap, sym, subst, refl, ℕ, List, [], ◌∷◌, Option, Some, None, IsTrue, Ok, Err}
+use Rattle.std.proofs.Common.{◌∙◌, arith, ap, sym, refl, [], ◌∷◌, IsTrue, Ok}
 use Rattle.std.proofs.lemmas.List.{append-nil}
 use Rattle.sasl_options.specs.declared.ending.RunEnd.TheVariants.{LinkFault}
 use Rattle.sec_base.proofs.InARow.{put-told}

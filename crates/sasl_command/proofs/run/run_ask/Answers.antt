@@ -1,4 +1,4 @@
-use Rattle.std.proofs.Common.{◌∙◌, ap, sym, subst, map, ℕ, List, Option, Ok, Err}
+use Rattle.std.proofs.Common.{sym, subst, map, ℕ, List, Option, Ok}
 use Rattle.sasl_layer.specs.declared.facts.LayerFacts.{LayerFacts}
 use Rattle.sasl_command.specs.Turns.{seen}
 use Rattle.sasl_command.specs.Printing.{Prints, lines}

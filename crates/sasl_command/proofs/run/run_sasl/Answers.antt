@@ -1,4 +1,4 @@
-use Rattle.std.proofs.Common.{◌∙◌, ap, sym, subst, map, Result, Ok, Err}
+use Rattle.std.proofs.Common.{◌∙◌, ap, sym, subst, map, Result, Ok}
 use Rattle.cli_base.specs.Lines.{Says}
 use Rattle.cli_base.specs.declared.given.WordsRefusal.{WordsRefusal}
 use Rattle.sasl_options.specs.Endings.{line_of}

@@ -1,8 +1,4 @@
-use Rattle.std.proofs.Common.{[], None, refl}
-use Rattle.sasl_options.specs.declared.ending.RunEnd.TheVariants.{NoMemory}
-use Rattle.sasl_gssapi.specs.declared.accept.SaslAccept.TheVariants.{Asked}
 use Rattle.sasl_command.specs.Turns.{seen}
-use Rattle.sasl_command.specs.declared.serving.Stage.TheVariants.{Before}
 use Rattle.sasl_command.proofs.Running.{unserved}
 use Rattle.sasl_command.proofs.run.serve_with.Goals as goal
 

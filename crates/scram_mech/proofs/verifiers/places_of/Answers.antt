@@ -1,4 +1,4 @@
-use Rattle.std.proofs.Common.{◌≡◌, ◌∙◌, ℕ, true, false, cond, List, Option, Some, is_some, sym, ap, subst}
+use Rattle.std.proofs.Common.{◌≡◌, ◌∙◌, ℕ, true, false, cond, List, Some, is_some, sym, ap, subst}
 use Rattle.scram_mech.specs.Judging.{same}
 use Rattle.scram_mech.specs.UserPlaces.{place_of}
 use Rattle.scram_mech.proofs.FoundPlaces.{is_twice, is_once, is_found}

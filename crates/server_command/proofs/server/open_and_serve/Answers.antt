@@ -1,7 +1,6 @@
 use Rattle.std.proofs.Common.{inl, inr, ⊎_elim, refl, sym, ap, subst, ◌∙◌, ◌≡◌, length}
-use Rattle.accept_book.specs.Booking.{BookOf}
 use Rattle.book_seats.specs.Both.{BothOf}
-use Rattle.server_command.specs.Through.{IsOpened, Begin}
+use Rattle.server_command.specs.Through.{Begin}
 use Rattle.server_desks.specs.Desks.{run_limit}
 use Rattle.server_desks.proofs.DeskRuns.{fresh-small}
 use Rattle.journal_gate.specs.Withheld.{journal_faults}

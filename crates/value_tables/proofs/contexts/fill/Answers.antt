@@ -1,4 +1,4 @@
-use Rattle.std.proofs.Common.{true, false, ◌∙◌, ◌≡◌, ℕ, ◌+◌, ◌≤◌, IsSome, IsSomeAnd, Option, None, Some, inl, inr, refl, sym, ap, subst, arith, length}
+use Rattle.std.proofs.Common.{true, false, ◌∙◌, ◌≡◌, ℕ, ◌+◌, IsSome, IsSomeAnd, Option, None, Some, inl, inr, refl, sym, ap, arith, length}
 use Rattle.std.proofs.lemmas.Bool.{cases_eq}
 use Rattle.context_table.specs.declared.slot.Slot.{Slot}
 use Rattle.context_table.specs.declared.slot.SlotState.{SlotState}

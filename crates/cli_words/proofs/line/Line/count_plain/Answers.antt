@@ -1,4 +1,4 @@
-use Rattle.std.proofs.Common.{◌≡◌, ◌∙◌, ◌≤◌, true, false, sym, length, slice_get}
+use Rattle.std.proofs.Common.{◌∙◌, ◌≤◌, true, false, sym, length, slice_get}
 use Rattle.cli_base.specs.Words.{plain_of}
 use Rattle.cli_words.proofs.Counting.{counts, some-of}
 use Rattle.cli_words.proofs.line.Line.count_plain.Goals as goal

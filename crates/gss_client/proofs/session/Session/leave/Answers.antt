@@ -1,4 +1,4 @@
-use Rattle.std.proofs.Common.{◌≡◌, ◌∙◌, ap, refl, subst, List, ℕ}
+use Rattle.std.proofs.Common.{◌∙◌, refl, subst, List, ℕ}
 use Rattle.sec_base.specs.Answers.{Gives}
 use Rattle.gss_client.specs.Session.{SessionState}
 use Rattle.gss_client.specs.declared.refusal.ClientRefusal.TheVariants.{NoMemory}

@@ -1,6 +1,4 @@
-use Rattle.std.proofs.Common.{ℕ, List, Vec, sym, subst, cond, ◌≡◌, Option, Some}
-use Rattle.scram_mech.specs.Judging.{same}
-use Rattle.scram_mech.specs.UserPlaces.{place_of}
+use Rattle.std.proofs.Common.{ℕ, Vec, sym}
 use Rattle.scram_mech.proofs.PutPlaces.{placed}
 use Rattle.scram_mech.proofs.user_places.Places.put.Goals as goal
 

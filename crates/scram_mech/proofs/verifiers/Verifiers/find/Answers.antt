@@ -1,7 +1,6 @@
 use Rattle.std.proofs.Common.{List, ◌≡◌, sym, subst, ◌∙◌, rules, arith}
 use Rattle.std.specs.Prelude.{slice_get, option_copied}
 use Rattle.scram_mech.specs.declared.verifiers.Verifier.{Verifier}
-use Rattle.scram_mech.specs.Verifiers.{line_for}
 use Rattle.scram_mech.proofs.FoundPlaces.{at_place, none}
 use Rattle.scram_mech.proofs.LentLines.{copied}
 use Rattle.scram_mech.proofs.verifiers.Verifiers.find.Goals as goal
